@@ -6,7 +6,7 @@ events, each set of them is tried, and what the listing says must be the same.
 
 import re
 
-from cuts import TooLarge, by_expansion, slice_of
+from cuts import TooLarge, expand, slice_of
 from text import Node, Refusal
 
 MEANING_EVENTS = 12  # up to so many events on which a target depends each set is tried
@@ -209,15 +209,30 @@ def all_sets(facts, fact, events):
     every = (1 << size) - 1
     columns = {event: sum(1 << chosen for chosen in range(size) if chosen >> bit & 1)
                for bit, event in enumerate(events)}
-    found, _ = slice_of(facts, fact)
-    known, grown = dict.fromkeys(found, 0), True
-    while grown:
-        grown = False
-        for one in found:
-            table = formula_table(facts.formulas[one], columns, known, every)
-            grown, known[one] = grown or table != known[one], table
+    table = grown(facts, fact, lambda formula, known: formula_table(formula, columns, known, every),
+                  dict.fromkeys(slice_of(facts, fact)[0], 0))
     return [frozenset(numbers[event] for bit, event in enumerate(events) if chosen >> bit & 1)
-            for chosen in range(size) if known[fact] >> chosen & 1]
+            for chosen in range(size) if table >> chosen & 1]
+
+
+def grown(facts, target, value_of, known):
+    """Look at the facts of a slice until none has another value; `known` has the first ones."""
+    found = slice_of(facts, target)[0]
+    waiting = dict.fromkeys(found)
+    while waiting:
+        fact, _ = waiting.popitem()
+        new = value_of(facts.formulas[fact], known)
+        if new != known.get(fact):
+            known[fact] = new
+            waiting.update((user, None) for user in facts.users.get(("fact", fact), [])
+                           if user in found)
+    return known[target]
+
+
+def by_expansion(facts, target):
+    """The minimal cut sets: formulas are expanded until no fact has another set."""
+    return grown(facts, target, lambda formula, known: sorted(
+        expand(formula, known), key=lambda one: sorted(map(repr, one))), {})
 
 
 def in_order(sets):
