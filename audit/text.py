@@ -14,6 +14,8 @@ NAMES = {
     "N15": "UnknownMachine", "P1": "Prototype", "P2": "Array", "P3": "FeatureGroup",
     "P4": "TypeProduct", "P5": "OrLess", "P6": "NoErrorCondition", "P7": "Others",
     "P8": "Recovery", "P9": "ConnectionError", "P11": "Mapping", "P12": "MachineExtends",
+    "Q1": "BadRequirement", "Q2": "NoRequirement", "Q3": "DuplicateName", "Q4": "UnknownTarget",
+    "Q5": "UnknownGroup", "Q6": "EmptyGroup", "Q7": "BadToken",
     "S1": "Syntax", "T1": "UnknownTarget",
 }
 
