@@ -136,7 +136,7 @@ class Meaning:
                 self.fault("Q3", each.name)
             known.add(each.name.text.lower())
             self.requirement(each)
-        if not asked:
+        if not asked and not self.faults:
             self.faults.append(Refusal("Q2", (0, -1)))
 
     def fault(self, code, word):
