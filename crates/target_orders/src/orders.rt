@@ -10,7 +10,7 @@ ghost use Rattle.target_orders.specs.inner.Sizes.{KnowsSizes};
 use crate::alone::alone;
 use crate::known::Known;
 use crate::order::Order;
-use crate::sizes::known_sizes;
+use crate::sizes::reached_sizes;
 use backward_slice::{Slice, slice};
 use cutset_engine::{Asked, family};
 use dependency_blocks::{Blocks, blocks};
@@ -29,7 +29,7 @@ pub fn orders_text(alloc: Global, system: &FaultSystem, facts: &[u32]) -> Mem<Ve
 {
     let always = system.holds(alloc, &Bits::new(alloc, system.events())?)?;
     let perhaps = system.holds(alloc, &all_events(alloc, system)?)?;
-    let sizes = known_sizes(alloc, system, facts)?;
+    let sizes = reached_sizes(alloc, system, &always, &perhaps, facts)?;
     let known = Known {
         always: &always,
         perhaps: &perhaps,

@@ -17,12 +17,50 @@ pub(crate) struct Sizes {
     pub small: Bits,
 }
 
-/// What is known of the sizes of facts. It is meant to say of each of these facts whether it is large; where it does not,
-/// the slice of the fact does.
-///
-/// Where no slice can be too large, all facts are small. Else a few slices tell most: what depends on a large fact is
-/// large, and facts that depend on few facts and events together are all small. For few facts nothing is sought.
-pub(crate) fn known_sizes(alloc: Global, system: &FaultSystem, facts: &[u32]) -> Mem<Sizes>
+/// What is known of the sizes of facts that hold under some events, and not under none: of no other is it asked whether it is
+/// large.
+pub(crate) fn reached_sizes(
+    alloc: Global,
+    system: &FaultSystem,
+    always: &Bits,
+    perhaps: &Bits,
+    facts: &[u32],
+) -> Mem<Sizes>
+    ensures { IfOk result (KnowsSizes system.now) }
+{
+    let reached = reached_facts(alloc, system, always, perhaps, facts)?;
+    known_sizes(alloc, system, reached.as_slice())
+}
+
+// Those of some facts that hold under some events, and not under none.
+fn reached_facts(
+    alloc: Global,
+    system: &FaultSystem,
+    always: &Bits,
+    perhaps: &Bits,
+    facts: &[u32],
+) -> Mem<Vec<u32>>
+    ensures { IfOk result (λ found. All (λ n. n < length system.now.facts) found.items) }
+{
+    let mut found = Vec::new(alloc);
+    for fact in facts {
+        if *fact < system.facts() && is_reached(always, perhaps, *fact) {
+            found.push(*fact)?;
+        }
+    }
+    Ok(found)
+}
+
+fn is_reached(always: &Bits, perhaps: &Bits, fact: u32) -> bool {
+    perhaps.has(fact) && !always.has(fact)
+}
+
+// What is known of the sizes of facts. It is meant to say of each of these facts whether it is large; where it does not,
+// the slice of the fact does.
+//
+// Where no slice can be too large, all facts are small. Else a few slices tell most: what depends on a large fact is
+// large, and facts that depend on few facts and events together are all small. For few facts nothing is sought.
+fn known_sizes(alloc: Global, system: &FaultSystem, facts: &[u32]) -> Mem<Sizes>
     requires { All (λ fact. fact < length system.now.facts) facts.now }
     ensures { IfOk result (KnowsSizes system.now) }
 {
