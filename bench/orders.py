@@ -74,6 +74,17 @@ def nothing(n):
     return "p::s.i", ["--all"], text, {"never"}
 
 
+def types(n):
+    """128 types on their way through devices, each with an event at the first one."""
+    names = [f"t{k}" for k in range(128)]
+    passed = "".join(f"f{k}: error path i{{{name}}} -> o{{{name}}};" for k, name in enumerate(names))
+    begun = "".join(f"e{k}: error source o{{{name}}};" for k, name in enumerate(names))
+    chain = device("link", ["i"], ["o"], names, (passed, ""))
+    links = [(f"d{k}.o", f"d{k + 1}.i") for k in range(n - 1)]
+    text = network(names, [device("first", [], ["o"], names, (begun, "")), chain], ["first: device first;", *(f"d{k}: device link;" for k in range(n))], [("first.o", "d0.i"), *links])
+    return "p::s.i", ["--all"], text, {"1"}
+
+
 def behind(n):
     """A chain of devices behind a pair of sources."""
     chain = device("link", ["i"], ["o"], ["t"], ("f: error path i{t} -> o{t};", ""))
@@ -111,7 +122,7 @@ def ring(n):
     return "p::s.i", ["--all"], network(["t"], [SOURCE, hub], parts, links), {"1", "2"}
 
 
-SHAPES = {shape.__name__: shape for shape in [counts, states, nothing, behind, pairs, crossed, ring]}
+SHAPES = {shape.__name__: shape for shape in [counts, states, nothing, types, behind, pairs, crossed, ring]}
 
 
 def is_right(printed, wanted):

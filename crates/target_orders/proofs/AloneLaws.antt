@@ -1,21 +1,14 @@
 -- Facts that hold under one event alone.
-use Rattle.std.proofs.Common.{ℕ, ◌-◌, ◌≡◌, ◌≤◌, ◌⊎◌, Bool, true, List, [], ◌∷◌, ⊎_elim, ◌∙◌, sym, subst, arith, eqb-true}
+use Rattle.std.proofs.Common.{ℕ, ◌-◌, ◌≡◌, ◌≤◌, ◌⊎◌, Bool, List, [], ◌∷◌, ⊎_elim, ◌∙◌, sym, subst, arith, eqb-true}
 use Rattle.std.proofs.lemmas.Bool.{false≢true, or_cases}
-use Rattle.fault_system.specs.Truth.{NumberSet, Has, member, set_of, truth}
-use Rattle.fault_system.specs.Systems.{System, Holds, IsFact}
+use Rattle.fault_system.specs.Truth.{Has, member, set_of}
+use Rattle.fault_system.specs.Systems.{System, Holds}
 use Rattle.fault_system.specs.Rounds.{time_of}
-use Rattle.fault_system.specs.declared.formula.FactInfo.{FactInfo}
 use Rattle.fault_system.proofs.CutSetLaws.{Holds-grows}
-use Rattle.fault_system.proofs.NumberSets.{member-map, set_of-first}
-use Rattle.fault_system.proofs.Occurring.{truth-grows}
+use Rattle.fault_system.proofs.NumberSets.{set_of-first}
 use Rattle.target_orders.specs.Orders.{HoldsWithin}
 use Rattle.target_orders.specs.inner.Alone.{AreAlone, AreAlways, IsWalk, held_set}
 use Rattle.target_orders.specs.declared.alone.Walk.{Walk}
-
--- a fact holds whose formula is true over facts that hold
-pub made-holds : (system : System) (events held : NumberSet) (n : ℕ) (fact : FactInfo) → IsFact system n fact → truth events held fact.formula ≡ true → ((m : ℕ) → Has held m → Holds system events m) → Holds system events n
-made-holds system events held n fact at t holds xs closed =
-    closed n (member-map (λ (f : FactInfo). truth events xs f.formula) system.facts n fact at ∙ truth-grows events events held xs (λ k e. e) (λ m h. holds m h xs closed) fact.formula t)
 
 module _ (system : System) (stamp : ℕ) (walk : Walk) (is : IsWalk system stamp walk) where
   -- the facts with the stamp of an event hold under it, and those that hold under none

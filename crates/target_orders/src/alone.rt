@@ -72,13 +72,8 @@ fn write_stamp(stamps: &mut Vec<u32>, fact: u32, stamp: u32)
 /// First each fact is gone on from under one event alone, so that each formula is looked at as often as it has places. What
 /// is found is all where a fact holds if one fact of its formula does. Where some are left, all events are gone on from
 /// once more, through all facts, for a number of steps that goes with how many are left. For few facts nothing is sought.
-pub(crate) fn alone(
-    alloc: Global,
-    system: &FaultSystem,
-    known: &Known<'_>,
-    facts: &[u32],
-) -> Mem<Bits>
-    requires { AreAlways system.now known.now.always.now }
+pub(crate) fn alone(alloc: Global, system: &FaultSystem, known: &Known, facts: &[u32]) -> Mem<Bits>
+    requires { AreAlways system.now known.now.always }
     ensures { IfOk result (AreAlone system.now) }
 {
     let mut found = Bits::new(alloc, system.facts())?;
@@ -87,16 +82,16 @@ pub(crate) fn alone(
     }
     let users = users_of(alloc, system)?;
     let first = first_walk(alloc, system, false, u64::MAX)?;
-    look_at_all(system, &users, known.always, first, &mut found)?;
+    look_at_all(system, &users, &known.always, first, &mut found)?;
     let left = left(known, &found, facts);
     let most = left.saturating_mul(u64::from(system.facts())) / 8;
     let second = first_walk(alloc, system, true, most.min(16_777_216))?;
-    look_at_all(system, &users, known.always, second, &mut found)?;
+    look_at_all(system, &users, &known.always, second, &mut found)?;
     Ok(found)
 }
 
 /// How many of some facts hold under some event and are not large, as far as it is known, and are not found yet.
-fn left(known: &Known<'_>, found: &Bits, facts: &[u32]) -> u64 {
+fn left(known: &Known, found: &Bits, facts: &[u32]) -> u64 {
     let mut left = 0u64;
     for fact in facts {
         if is_left(known, found, *fact) {
@@ -107,7 +102,7 @@ fn left(known: &Known<'_>, found: &Bits, facts: &[u32]) -> u64 {
 }
 
 /// Whether a fact holds under some event and is not large, as far as it is known, and is not found yet.
-fn is_left(known: &Known<'_>, found: &Bits, fact: u32) -> bool {
+fn is_left(known: &Known, found: &Bits, fact: u32) -> bool {
     let is_known = known.always.has(fact) || known.sizes.large.has(fact) || found.has(fact);
     known.perhaps.has(fact) && !is_known
 }

@@ -34,6 +34,15 @@ pub(crate) fn put_list(marks: &mut Bits, numbers: &[u32])
     }
 }
 
+/// Takes the numbers of a list out of a set.
+pub(crate) fn take_list(marks: &mut Bits, numbers: &[u32])
+    ensures { (n : ℕ) → Has (member marks.new) n → Has (member marks.old) n × (Has (set_of numbers.now) n → ⊥) }
+{
+    for number in numbers {
+        take(marks, *number);
+    }
+}
+
 /// Puts the numbers of one set into another.
 pub(crate) fn put_all(marks: &mut Bits, more: &Bits)
     ensures { (n : ℕ) → Has (member marks.new) n → Has (member marks.old) n ⊎ Has (member more.now) n }

@@ -1,9 +1,10 @@
 //! Settles which facts are large, by few slices.
 //!
-//! The facts are gone through block by block, so that each comes behind those on which it depends. What the facts from one
-//! place on depend on is gathered for as many at once as together stay small; where the next fact alone is too much, its
-//! slice decides, and what depends on a large fact is large. So a slice is made for a large fact that depends on no other
-//! one, and the time goes with the number of such facts, and of groups of small ones, times the size of the system.
+//! The facts are gone through block by block: first from those on that no other depends on, and then so that each comes behind
+//! those on which it depends. What the facts from one place on depend on is gathered for as many at once as together stay small;
+//! on the second way, where the next fact alone is too much, its slice decides, and what depends on a large fact is large. So a
+//! slice is made for a large fact that depends on no other one, and the time goes with the number of such facts, and of groups of
+//! small ones, times the size of the system.
 
 ghost use Rattle.std.specs.Prelude.{◌≡◌, ◌<◌, ℕ, IsTrue, OnOk, map, true};
 ghost use Rattle.std.specs.List.{list_any};
@@ -91,11 +92,117 @@ pub(crate) fn settle(
     requires before { KnowsSizes question.now.system.now sizes.old }
     ensures { OnOk result (KnowsSizes question.now.system.now sizes.new) }
 {
+    settle_from_top(alloc, question, order, sizes)?;
+    settle_in_order(alloc, question, order, sizes)
+}
+
+fn settle_in_order(
+    alloc: Global,
+    question: &Question<'_>,
+    order: &[u32],
+    sizes: &mut Sizes,
+) -> Mem<()>
+    requires numbered { AreAllBlocks question.now.system.now question.now.blocks.now }
+    requires before { KnowsSizes question.now.system.now sizes.old }
+    ensures { OnOk result (KnowsSizes question.now.system.now sizes.new) }
+{
     let mut width = order.len();
     for at in 0..order.len() {
         width = settle_first(alloc, question, &order[at..], width, sizes)?;
     }
     Ok(())
+}
+
+/// How many facts to gather for the next time, and how many more may be found too large.
+#[derive(Clone, Copy)]
+struct Tries {
+    width: usize,
+    left: u32,
+}
+
+/// Finds small facts, those on which most depend last: what a small one depends on is small with it, and is gathered once.
+/// It ends where many were too large alone.
+fn settle_from_top(
+    alloc: Global,
+    question: &Question<'_>,
+    order: &[u32],
+    sizes: &mut Sizes,
+) -> Mem<()>
+    requires { KnowsSizes question.now.system.now sizes.old }
+    ensures { OnOk result (KnowsSizes question.now.system.now sizes.new) }
+{
+    let facts = reversed(alloc, order)?;
+    settle_small(alloc, question, facts.as_slice(), sizes)
+}
+
+fn reversed(alloc: Global, order: &[u32]) -> Mem<Vec<u32>> {
+    let mut facts = Vec::new(alloc);
+    for fact in order.iter().rev() {
+        facts.push(*fact)?;
+    }
+    Ok(facts)
+}
+
+fn settle_small(alloc: Global, question: &Question<'_>, facts: &[u32], sizes: &mut Sizes) -> Mem<()>
+    requires { KnowsSizes question.now.system.now sizes.old }
+    ensures { OnOk result (KnowsSizes question.now.system.now sizes.new) }
+{
+    let mut tries = Tries {
+        width: facts.len(),
+        left: 64,
+    };
+    for at in 0..facts.len() {
+        if tries.left == 0 {
+            return Ok(());
+        }
+        tries = try_first(alloc, question, &facts[at..], tries, sizes)?;
+    }
+    Ok(())
+}
+
+/// Finds that the first of some facts is small, and others with it, where it is.
+fn try_first(
+    alloc: Global,
+    question: &Question<'_>,
+    rest: &[u32],
+    tries: Tries,
+    sizes: &mut Sizes,
+) -> Mem<Tries>
+    requires { KnowsSizes question.now.system.now sizes.old }
+    ensures { OnOk result (KnowsSizes question.now.system.now sizes.new) }
+{
+    let Some(fact) = rest.first().copied() else {
+        return Ok(tries);
+    };
+    if !is_open(question.asked, sizes, fact) {
+        return Ok(tries);
+    }
+    let settled = settle_many(alloc, question, rest, tries.width, sizes)?;
+    if settled > 0 {
+        return Ok(wider(tries, settled));
+    }
+    let is_small = are_found_small(alloc, question, front(rest, 1), sizes)?;
+    Ok(narrow(tries, is_small))
+}
+
+fn wider(tries: Tries, settled: usize) -> Tries {
+    Tries {
+        width: settled.saturating_mul(2),
+        left: tries.left,
+    }
+}
+
+fn narrow(tries: Tries, is_small: bool) -> Tries {
+    if is_small {
+        return Tries {
+            width: 2,
+            left: tries.left,
+        };
+    }
+    Tries {
+        width: 2,
+        left: tries.left.saturating_sub(1),
+    }
 }
 
 /// Settles the first of some facts, and others with it; how many to gather for the next time.

@@ -2,7 +2,8 @@ use Rattle.std.proofs.Common.{ℕ, List, ◌∙◌, sym, subst}
 use Rattle.fault_system.specs.Truth.{Has, member}
 use Rattle.fault_system.specs.Systems.{Holds}
 use Rattle.target_orders.specs.inner.Alone.{held_set}
-use Rattle.target_orders.proofs.AloneLaws.{held-holds, made-holds}
+use Rattle.target_orders.proofs.AloneLaws.{held-holds}
+use Rattle.target_orders.proofs.MadeLaws.{made-holds}
 use Rattle.target_orders.proofs.alone.is_made.Goals as goal
 
 pub returns-in-Some : goal.returns-in-Some

@@ -3,7 +3,7 @@ use Rattle.std.specs.List.{AllZip}
 use Rattle.target_orders.specs.Orders.{IsOrder}
 use Rattle.target_orders.specs.Text.{order_lines}
 use Rattle.target_orders.specs.declared.order.Order.{Order}
-use Rattle.target_orders.proofs.orders.orders_text.Given as goal
+use Rattle.target_orders.proofs.orders.text_of.Given as goal
 
 abbrev pub invariant-loop-fact : goal.invariant-loop-fact
 invariant-loop-fact l =
