@@ -116,12 +116,7 @@ class Meaning:
         self.events = {facts.print(event).encode(): number
                        for number, event in enumerate(facts.events)}
         self.targets = {facts.print(fact).encode(): fact for fact in facts.formulas}
-        self.within, self.busy = {}, set()
-        for key in list(facts.events) + list(facts.formulas):
-            part = facts.parts[key[0]]
-            while part:
-                self.busy.add(part.path.encode())
-                part = part.parent
+        self.within = {}
         for number, event in enumerate(facts.events):
             part = facts.parts[event[0]]
             while part:
@@ -150,8 +145,8 @@ class Meaning:
         found = set()
         for member in group.members:
             text = member.text.lower()
-            if group.kind == b"parts" and text in self.busy:
-                found |= self.within.get(text, set())
+            if group.kind == b"parts" and text in self.within:
+                found |= self.within[text]
             elif group.kind == b"events" and text in self.events:
                 found.add(self.events[text])
             else:

@@ -161,6 +161,8 @@ def cases(folder):
         Case("verdicts of which one is not met, to a full disk", ["require", ROOT, "/dev/stdin", *FILES], 5, bad, out="/dev/full", stdin=BROKEN),
         Case("a requirement that is met, from a pipe", ["require", ROOT, "/dev/stdin", *FILES], 0, "", b"met R\nend met 1 broken 0 vacuous 0\n", stdin=MET),
         Case("a requirement that is broken, from a pipe", ["require", ROOT, "/dev/stdin", *FILES], 8, "", b"broken R root.v/failure\nend met 0 broken 1 vacuous 0\n", stdin=BROKEN),
+        Case("a comparison to a full disk", ["compare", ROOT, TARGET, *FILES, "to", *FILES], 5, bad, out="/dev/full"),
+        Case("a comparison with a pipe", ["compare", ROOT, TARGET, *FILES, "to", "/dev/stdin"], 2, "S1 Syntax", stdin=MET),
         Case("derivation to a full disk", ["why", ROOT, TARGET, *FILES, "--set", "root.v/failure"], 5, bad, out="/dev/full"),
         Case("its check to a full disk", ["confirm", ROOT, TARGET, "d.txt", *FILES, "--set", "root.v/failure"], 5, bad, out="/dev/full"),
         Case("listing of a tree to a full disk", ["galileo", "t.dft"], 5, bad, out="/dev/full"),

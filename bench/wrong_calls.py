@@ -1,5 +1,5 @@
 #!/usr/bin/env python3
-"""Thirty calls as they go wrong at a desk, and what `explain` says of each.
+"""Calls as they go wrong at a desk, and what `explain` says of each.
 
     wrong_calls.py --tool PROGRAM [--show]    in the folder of the repository
 
@@ -13,8 +13,10 @@ import subprocess
 import sys
 
 MODEL = "examples/attitude_control.aadl"
+NEWER = "examples/attitude_control_2.aadl"
 REQUIREMENTS = "examples/attitude_control.requirements"
 ROOT, TARGET = "Acs::Control.dual", "root/out:torque{errors::serviceomission}"
+COMPARE = "usage aadl_fta compare ROOT TARGET FILE.. to FILE.. [--max-order N] [--profile 1|2]"
 TREE = "usage aadl_fta tree ROOT TARGET FILE.. [--format galileo|mef|dot] [--gates written|merged] [--unrated 1|refuse] [--profile 1|2]"
 
 # the words of a call, its exit status, and lines that must be among those of `explain`
@@ -55,6 +57,12 @@ CALLS = [
     (["require", ROOT, REQUIREMENTS], 1, ["usage aadl_fta require ROOT REQUIREMENTS FILE.. [--tap] [--profile 1|2]"]),
     (["require", ROOT, MODEL, MODEL], 2, ["Q1 BadRequirement"]),
     (["require", "Small::Sensor", REQUIREMENTS, "examples/small.aadl"], 2, ["Q6 EmptyGroup", REQUIREMENTS + ":3:13"]),
+    (["require", "Acs::Contrl.dual", REQUIREMENTS, MODEL], 2, ["aadl_fta: N3 UnknownClassifier", "near acs::control.dual"]),
+    (["compare", ROOT, TARGET, MODEL, NEWER], 1, [COMPARE]),
+    (["compare", ROOT, TARGET, MODEL, "to"], 1, [COMPARE]),
+    (["compare", ROOT, "root/out:torqe{errors::serviceomission}", MODEL, "to", NEWER], 2, ["aadl_fta: T1 UnknownTarget", "near " + TARGET]),
+    (["compare", "Acs::Contrl.dual", TARGET, MODEL, "to", NEWER], 2, ["aadl_fta: N3 UnknownClassifier", "near acs::control.dual"]),
+    (["compare", ROOT, TARGET, MODEL, "to", "examples/wrong.aadl"], 2, ["aadl_fta: S1 Syntax examples/wrong.aadl:152", "examples/wrong.aadl:7:25"]),
 ]
 
 

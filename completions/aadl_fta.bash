@@ -13,7 +13,7 @@ _aadl_fta_names() {
 }
 
 _aadl_fta() {
-  local commands='check cuts tree fmea report make galileo paths why confirm targets events review place manifest refusals probability require explain help version'
+  local commands='check cuts tree fmea report make galileo paths why confirm targets events review place manifest refusals probability require compare explain help version'
   local cur prev words cword options='' files_from=0
   # A colon and an equals sign end a word for bash. bash-completion joins what they part; without it a root counts as several words.
   if declare -F _get_comp_words_by_ref >/dev/null; then
@@ -93,6 +93,7 @@ _aadl_fta() {
     place) [ "$cword" -eq 2 ] && files_from=2 ;;
     probability) options='--hours --events --profile' files_from=4 ;;
     require) options='--tap --profile' files_from=3 ;;
+    compare) options='--max-order --profile' files_from=4 ;;
     help)
       [ "$cword" -eq 2 ] && COMPREPLY=($(compgen -W "$commands" -- "$cur"))
       return

@@ -19,7 +19,7 @@ use crate::closed::Closed;
 use crate::explanation::more_of;
 use fta_outside::{Files, Report, Sink, SinkFailed, write_all};
 use fta_run::{ReadFiles, Status, read_first, run_held, run_read, write_line, write_status};
-use fta_words::explained_call;
+use fta_words::{FileWords, explained_call};
 use plain_values::{Mem, Word};
 use std::alloc::Global;
 use system_answers::names_of;
@@ -125,14 +125,14 @@ fn explain<F: Files, S: Sink, E: Sink>(
 fn explain_read<S: Sink, E: Sink>(
     alloc: Global,
     call: &[Word],
-    read: &ReadFiles<'_>,
+    read: &ReadFiles,
     out: &mut S,
     err: &mut E,
     reports: &mut Vec<Box<dyn Report>>,
 ) -> Status
     // Reports that another crate takes in boxes are asked for with a premise; this one always holds.
     requires { Unit {0} }
-    ensures told { (contents : Items ℕ → Maybe (Items ℕ)) → IsToRead (labels (voices_of label text reports.old.items)) call.now read.now.names.now → AreFronts contents read.now.names.now read.now.texts → IsExplained call.now read.now.names.now read.now.texts (voices_of label text reports.old.items) result (S.seen out.old) (S.seen out.new) }
+    ensures told { (contents : Items ℕ → Maybe (Items ℕ)) → IsToRead (labels (voices_of label text reports.old.items)) call.now read.now.names → AreFronts contents read.now.names read.now.texts → IsExplained call.now read.now.names read.now.texts (voices_of label text reports.old.items) result (S.seen out.old) (S.seen out.new) }
     ensures reports { (asked : AnyRequest) → IsRequest (labels (voices_of label text reports.old.items)) call.now asked → AtChosen asked.options.chosen (IsKept text label report_faults) reports.old.items reports.new.items }
     ensures no_reports { GiveNoRequest (labels (voices_of label text reports.old.items)) call.now → reports.new ≡ reports.old }
     ensures report_fault { IsReportCaused (labels (voices_of label text reports.old.items)) call.now (λ place. RoseAt report_faults place reports.old.items reports.new.items) result }
@@ -151,12 +151,12 @@ fn explain_read<S: Sink, E: Sink>(
 fn tell<S: Sink>(
     alloc: Global,
     call: &[Word],
-    read: &ReadFiles<'_>,
+    read: &ReadFiles,
     out: &mut S,
     reports: &Vec<Box<dyn Report>>,
     its_end: Status,
 ) -> Status
-    ensures took { Took (ExplainsEnd (map label reports.now.items) call.now read.now.names.now read.now.texts its_end) result (S.seen out.old) (S.seen out.new) }
+    ensures took { Took (ExplainsEnd (map label reports.now.items) call.now read.now.names read.now.texts its_end) result (S.seen out.old) (S.seen out.new) }
     ensures ends { EndsExplained its_end result (S.seen out.old) (S.seen out.new) }
 {
     match its_end {
@@ -170,18 +170,18 @@ fn tell<S: Sink>(
 fn tell_end<S: Sink>(
     alloc: Global,
     call: &[Word],
-    read: &ReadFiles<'_>,
+    read: &ReadFiles,
     out: &mut S,
     reports: &Vec<Box<dyn Report>>,
     its_end: &Status,
 ) -> Status
-    ensures took { Took (ExplainsEnd (map label reports.now.items) call.now read.now.names.now read.now.texts its_end.now) result (S.seen out.old) (S.seen out.new) }
+    ensures took { Took (ExplainsEnd (map label reports.now.items) call.now read.now.names read.now.texts its_end.now) result (S.seen out.old) (S.seen out.new) }
     ensures ends { EndsExplained its_end.now result (S.seen out.old) (S.seen out.new) }
 {
     let Ok(more) = more_with(alloc, call, read, reports, its_end) else {
         return Status::Memory;
     };
-    match write_both(out, read.names, reports, its_end, more.as_slice()) {
+    match write_both(out, read.names.items(), reports, its_end, more.as_slice()) {
         Ok(()) => Status::Done,
         Err(_) => Status::WriteFault,
     }
@@ -191,11 +191,11 @@ fn tell_end<S: Sink>(
 fn more_with(
     alloc: Global,
     call: &[Word],
-    read: &ReadFiles<'_>,
+    read: &ReadFiles,
     reports: &Vec<Box<dyn Report>>,
     its_end: &Status,
 ) -> Mem<Vec<u8>>
-    ensures { IfOk result (λ text. TellsMore (map label reports.now.items) call.now read.now.names.now read.now.texts its_end.now text.items) }
+    ensures { IfOk result (λ text. TellsMore (map label reports.now.items) call.now read.now.names read.now.texts its_end.now text.items) }
 {
     let names = names_of(alloc, reports)?;
     more_of(alloc, names.items(), call, read, its_end)
@@ -227,6 +227,6 @@ fn write_before<S: Sink>(
     match status {
         Status::Done => Ok(()),
         Status::WriteFault => Ok(()),
-        status => write_line(out, files, reports, status),
+        status => write_line(out, &FileWords::of(files), reports, status),
     }
 }

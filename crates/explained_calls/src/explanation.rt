@@ -22,10 +22,10 @@ pub(crate) fn more_of(
     alloc: Global,
     names: &[Name],
     call: &[Word],
-    read: &ReadFiles<'_>,
+    read: &ReadFiles,
     its_end: &Status,
 ) -> Mem<Vec<u8>>
-    ensures { IfOk result (λ text. TellsMore names.now call.now read.now.names.now read.now.texts its_end.now text.items) }
+    ensures { IfOk result (λ text. TellsMore names.now call.now read.now.names read.now.texts its_end.now text.items) }
 {
     match its_end {
         Status::Usage => usage_of(alloc, call),
@@ -77,10 +77,10 @@ fn refused(
     alloc: Global,
     names: &[Name],
     call: &[Word],
-    read: &ReadFiles<'_>,
+    read: &ReadFiles,
     refusal: &Refusal,
 ) -> Mem<Vec<u8>>
-    ensures { IfOk result (λ text. TellsRefusal names.now call.now read.now.names.now read.now.texts refusal.now text.items) }
+    ensures { IfOk result (λ text. TellsRefusal names.now call.now read.now.names read.now.texts refusal.now text.items) }
 {
     let Ok(asked) = Request::read(alloc, call, names) else {
         return Err(AllocError);
@@ -88,7 +88,14 @@ fn refused(
     let texts = read.texts.items();
     let near = near_word(alloc, call, &asked, texts, refusal)?;
     let name = code_name(alloc, refusal.code)?;
-    let mut text = place_in(alloc, call, &asked.options, read.names, texts, refusal)?;
+    let mut text = place_in(
+        alloc,
+        call,
+        &asked.options,
+        read.names.items(),
+        texts,
+        refusal,
+    )?;
     text.extend_from_slice(near.as_slice())?;
     text.push(b'\n')?;
     text.extend_from_slice(explain_text(name.items()))?;

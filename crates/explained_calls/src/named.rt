@@ -4,6 +4,7 @@ ghost use Rattle.std.specs.Prelude.{◌≡◌, ◌==◌, ◌++◌, ◌∷◌, �
 ghost use Rattle.std.specs.List.{before_last, flat_map, suffix_len, take_while};
 ghost use Rattle.package_index.specs.Lookup.{package_of};
 ghost use Rattle.page_tokens.specs.Keys.{joined};
+ghost use Rattle.fta_words.specs.inner.Shown.{request_shown};
 ghost use Rattle.fta_run.specs.inner.Read.{units_read};
 ghost use Rattle.explained_calls.specs.inner.Texts.{IsNearAt, IsToldOf, is_name_byte, is_packaged, name_at, near_classifiers, near_either, near_others, near_packages, package_names, package_part, texts_for};
 
@@ -12,25 +13,25 @@ use crate::unplaced::has_sign;
 use aadl_lexer::is_letter_or_digit;
 use aadl_syntax::{PackageUnit, Unit};
 use fta_run::{Status, units_read};
-use fta_words::{Kind, is_among};
+use fta_words::{Request, is_among};
 use plain_values::{Code, List, Mem, Name, fold};
 use std::alloc::{AllocError, Global};
 
 /// The lines of the names that are nearest to the name in the file of a number of which a refusal is.
 pub(crate) fn near_name(
     alloc: Global,
-    kind: Kind,
+    asked: &Request,
     texts: &[Name],
     code: Code,
     file: u32,
     name: &[u8],
 ) -> Mem<Vec<u8>>
-    ensures { IfOk result (λ near. IsNearAt kind texts.now code file name.now near.items) }
+    ensures { IfOk result (λ near. IsNearAt (request_shown asked.now) texts.now code file name.now near.items) }
 {
     match code {
-        Code::UnknownPackage => near_package(alloc, model_texts(kind, texts), name),
+        Code::UnknownPackage => near_package(alloc, model_texts(asked, texts), name),
         Code::UnknownClassifier => {
-            near_classifier(alloc, texts_for(kind, texts, file, name), name)
+            near_classifier(alloc, texts_for(asked, texts, file, name), name)
         }
         _ => Ok(Vec::new(alloc)),
     }
@@ -107,11 +108,11 @@ fn behind_colon(name: &[u8]) -> usize
 }
 
 /// The texts in which a classifier of a name is looked for that stands in the file of a number.
-fn texts_for<'t>(kind: Kind, texts: &'t [Name], file: u32, name: &[u8]) -> &'t [Name]
-    ensures { result.now ≡ texts_for kind texts.now file name.now }
+fn texts_for<'t>(asked: &Request, texts: &'t [Name], file: u32, name: &[u8]) -> &'t [Name]
+    ensures { result.now ≡ texts_for (request_shown asked.now) texts.now file name.now }
 {
     if is_packaged(name) {
-        return model_texts(kind, texts);
+        return model_texts(asked, texts);
     }
     one_of(texts, file as usize)
 }

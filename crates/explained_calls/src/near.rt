@@ -1,6 +1,6 @@
 //! The nearest names to a word of a call.
 
-ghost use Rattle.std.specs.Prelude.{◌≡◌, ◌++◌, ◌∷◌, [], IfOk, OnOk, codes, drop, get_or, map, slice_index_or, unwrap_or};
+ghost use Rattle.std.specs.Prelude.{◌≡◌, ◌++◌, ◌∷◌, [], IfOk, OnOk, codes, drop, get_or, map, slice_index_or, take, unwrap_or};
 ghost use Rattle.std.specs.List.{flat_map};
 ghost use Rattle.package_index.specs.Lookup.{package_of};
 ghost use Rattle.page_tokens.specs.Keys.{dotted, joined};
@@ -25,7 +25,7 @@ use std::alloc::{AllocError, Global};
 pub(crate) fn near_word(
     alloc: Global,
     call: &[Word],
-    asked: &Request<'_>,
+    asked: &Request,
     texts: &[Name],
     refusal: &Refusal,
 ) -> Mem<Vec<u8>>
@@ -34,23 +34,23 @@ pub(crate) fn near_word(
     match refusal.place {
         Place::Words => near_of(alloc, call, asked, texts, refusal.code),
         Place::Whole(_) => Ok(Vec::new(alloc)),
-        Place::At { file, at } => near_at(alloc, asked.kind, texts, refusal.code, file, at),
+        Place::At { file, at } => near_at(alloc, asked, texts, refusal.code, file, at),
     }
 }
 
 /// The lines of the names that are nearest to the name at a byte of a file, where a refusal of this code is.
 fn near_at(
     alloc: Global,
-    kind: Kind,
+    asked: &Request,
     texts: &[Name],
     code: Code,
     file: u32,
     at: u32,
 ) -> Mem<Vec<u8>>
-    ensures { IfOk result (λ near. IsNearAt kind texts.now code file (name_at (get_or texts.now file []) at) near.items) }
+    ensures { IfOk result (λ near. IsNearAt (request_shown asked.now) texts.now code file (name_at (get_or texts.now file []) at) near.items) }
 {
     let name = name_at(alloc, text_at(texts, file), at)?;
-    near_name(alloc, kind, texts, code, file, name.items())
+    near_name(alloc, asked, texts, code, file, name.items())
 }
 
 /// The text of a number.
@@ -67,13 +67,13 @@ pub(crate) fn text_at(texts: &[Name], number: u32) -> &[u8]
 fn near_of(
     alloc: Global,
     call: &[Word],
-    asked: &Request<'_>,
+    asked: &Request,
     texts: &[Name],
     code: Code,
 ) -> Mem<Vec<u8>>
     ensures { IfOk result (λ near. IsNearOf call.now (request_shown asked.now) texts.now code near.items) }
 {
-    let texts = model_texts(asked.kind, texts);
+    let texts = model_texts(asked, texts);
     match code {
         Code::UnknownPackage => near_root(alloc, call, texts),
         Code::UnknownClassifier => near_root(alloc, call, texts),
@@ -84,13 +84,22 @@ fn near_of(
 }
 
 /// The texts of the model, among those of the files.
-pub(crate) fn model_texts(kind: Kind, texts: &[Name]) -> &[Name]
-    ensures { result.now ≡ model_texts kind texts.now }
+pub(crate) fn model_texts<'t>(asked: &Request, texts: &'t [Name]) -> &'t [Name]
+    ensures { result.now ≡ model_texts (request_shown asked.now) texts.now }
 {
-    match kind {
+    match asked.kind {
         Kind::Confirm => others_of(texts),
+        Kind::Require => others_of(texts),
+        Kind::Compare => first_of(texts, asked.number as usize),
         _ => texts,
     }
+}
+
+/// The first texts, of which there are so many.
+fn first_of(texts: &[Name], count: usize) -> &[Name]
+    ensures { result.now ≡ take count texts.now }
+{
+    &texts[..count.min(texts.len())]
 }
 
 /// The texts but for the first.
@@ -115,7 +124,7 @@ fn near_root(alloc: Global, call: &[Word], texts: &[Name]) -> Mem<Vec<u8>>
 }
 
 /// The lines of the facts that are nearest to the target of a call.
-fn near_target(alloc: Global, asked: &Request<'_>, texts: &[Name]) -> Mem<Vec<u8>>
+fn near_target(alloc: Global, asked: &Request, texts: &[Name]) -> Mem<Vec<u8>>
     ensures { IfOk result (λ near. IsToldOf (model_read (profile_of asked.now.options.form) asked.now.root texts.now) (near_facts asked.now.target) near.items) }
 {
     match model_read(alloc, &asked.options.form, &asked.root, texts) {
@@ -126,7 +135,7 @@ fn near_target(alloc: Global, asked: &Request<'_>, texts: &[Name]) -> Mem<Vec<u8
 }
 
 /// The lines of the events that are nearest to the text of a set.
-fn near_token(alloc: Global, asked: &Request<'_>, texts: &[Name]) -> Mem<Vec<u8>>
+fn near_token(alloc: Global, asked: &Request, texts: &[Name]) -> Mem<Vec<u8>>
     ensures { IfOk result (λ near. IsToldOf (model_read (profile_of asked.now.options.form) asked.now.root texts.now) (near_events (token_of asked.now.options)) near.items) }
 {
     let token = token_of(alloc, &asked.options)?;

@@ -63,7 +63,7 @@ fn room_of(kind: Kind) -> Option<u32>
         Kind::Check | Kind::Cuts | Kind::Tree | Kind::Fmea | Kind::Report => None,
         Kind::Paths | Kind::Why | Kind::Confirm | Kind::Targets | Kind::Events => None,
         Kind::Review | Kind::Manifest | Kind::Refusals => None,
-        Kind::Probability | Kind::Require | Kind::Explain => None,
+        Kind::Probability | Kind::Require | Kind::Compare | Kind::Explain => None,
         Kind::Make | Kind::Galileo | Kind::Help => Some(1),
         Kind::Place => Some(2),
         Kind::Version => Some(0),

@@ -1,3 +1,4 @@
 pub mod Outside
 pub mod Reports
+pub mod Counts
 pub mod inner

@@ -6,6 +6,7 @@
 //! their faults, and tell nothing of what they hold.
 #![tactic(auto)]
 
+mod counts;
 mod disk;
 mod error;
 mod faults;
@@ -16,6 +17,7 @@ mod report;
 mod steps;
 mod stream;
 
+pub use counts::FamilyCounts;
 pub use disk::DiskFiles;
 pub use error::WriteError;
 pub use lines::{Lines, write_lines};

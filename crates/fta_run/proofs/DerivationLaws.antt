@@ -11,6 +11,7 @@ use Rattle.system_answers.specs.Targets.{IsFactNamed}
 use Rattle.system_answers.specs.Voices.{Voice}
 use Rattle.system_answers.proofs.Derived.{accepted-holds, why-confirmed}
 use Rattle.fta_run.specs.Forms.{profile_of}
+use Rattle.fta_run.specs.Sets.{set_asked}
 use Rattle.fta_run.specs.Due.{model_of_texts, other_texts, texts_of}
 use Rattle.fta_run.specs.inner.Texts.{request_text}
 use Rattle.fta_run.specs.Files.{too_long_from}
@@ -53,14 +54,14 @@ confirms-why contents voices asked files file lines why before =
     let at = why.passed.2.1 in
     let its : Passes (model_of_texts (profile_of asked.options.form) asked.root texts) model = record { passed = at } in
     let plain = plain_model (profile_of asked.options.form) asked.root texts model at in
-    let confirmed = why-confirmed model.system asked.target asked.options.set lines plain.system.is_system (record { passed = why.passed.2.2 }) in
+    let confirmed = why-confirmed model.system asked.target (set_asked (profile_of asked.options.form) asked.options.set model.system) lines plain.system.is_system (record { passed = why.passed.2.2 }) in
     (confirmed.0, record { passed = (lines ∷ texts, more_texts contents files texts file lines read before, (model, its, confirmed.1.passed)) })
 
 pub holds-where-confirmed : (contents : List ℕ → Option (List ℕ)) (voices : List Voice) (asked : Request) (files : List (List ℕ)) (answer : List ℕ)
     → Passes (request_text contents voices (ask Confirm files asked)) answer
     → (texts : List (List ℕ)) × (model : FlatModel) × Passes (texts_of contents files) texts × Passes (model_of_texts (profile_of asked.options.form) asked.root (other_texts texts)) model
-    × ((number : ℕ) × (events : List ℕ) × IsFactNamed model.system asked.target number × IsSetOfText model.system asked.options.set events × Holds model.system (set_of events) number)
+    × ((number : ℕ) × (events : List ℕ) × IsFactNamed model.system asked.target number × IsSetOfText model.system (set_asked (profile_of asked.options.form) asked.options.set model.system) events × Holds model.system (set_of events) number)
 holds-where-confirmed contents voices asked files answer confirmed =
     let texts = confirmed.passed.0 in
     let model = confirmed.passed.2.0 in
-    (texts, model, record { passed = confirmed.passed.1 }, confirmed.passed.2.1, accepted-holds model.system asked.target asked.options.set _ answer (record { passed = confirmed.passed.2.2 }))
+    (texts, model, record { passed = confirmed.passed.1 }, confirmed.passed.2.1, accepted-holds model.system asked.target (set_asked (profile_of asked.options.form) asked.options.set model.system) _ answer (record { passed = confirmed.passed.2.2 }))

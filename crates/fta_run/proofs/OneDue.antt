@@ -1,5 +1,5 @@
 -- One end at most is due for the words and the contents, where these are told.
-use Rattle.std.proofs.Common.{◌≡◌, ◌≤◌, ℕ, Bool, true, false, List, [], ◌∷◌, length, Option, Some, None, IsSome, IfSome, Result, Ok, Err, refl, sym, subst, ap, ◌∙◌, inl, inr, codes}
+use Rattle.std.proofs.Common.{◌≡◌, ◌≤◌, ℕ, Bool, true, false, List, [], ◌∷◌, length, take, drop, Option, Some, None, IsSome, IfSome, Result, Ok, Err, refl, sym, subst, ap, ◌∙◌, inl, inr, codes}
 use Rattle.std.specs.Prelude.{IsOk}
 use Rattle.std.specs.List.{AllByRecursion}
 use Rattle.std.proofs.lemmas.Bool.{false≢true}
@@ -37,7 +37,11 @@ use Rattle.system_answers.specs.declared.form.TreeForm.{TreeForm}
 use Rattle.system_answers.proofs.Derived.{confirm_decided, why_decided}
 use Rattle.system_answers.proofs.Decided.{cuts_decided, drawn_decided, galileo_paths_text_decided, galileo_text_decided, listing_decided, named_tree_decided, paths_decided, rated_decided, report_decided, slice_decided, target_decided, tree_decided, tree_for_decided}
 use Rattle.page_tokens.specs.Keys.{asked_digits}
-use Rattle.fta_run.specs.Due.{confirmed_in, cuts_in, due, first_text, galileo_in, is_require, made_of_texts, made_root, made_target, make_text, model_of_texts, other_texts, output_for, output_with, require_in, required_in, sets_of_tree, sized_text, text_by, texts_of, units_of, within_limits}
+use Rattle.listing_changes.specs.Changes.{TellsChanges}
+use Rattle.listing_changes.proofs.Texts.{text-once}
+use Rattle.fta_run.specs.Compared.{compared_text}
+use Rattle.fta_run.specs.Sets.{set_asked}
+use Rattle.fta_run.specs.Due.{compared_in, confirmed_in, cuts_in, due, first_text, galileo_in, is_require, made_of_texts, made_root, made_target, make_text, model_of_texts, other_texts, output_for, output_with, require_in, required_in, sets_of_tree, sized_text, text_by, texts_of, units_of, within_limits}
 use Rattle.fta_run.specs.inner.Texts.{request_text, text_due}
 use Rattle.fta_run.specs.Required.{Output}
 use Rattle.fta_run.proofs.RequiredLaws.{required-decided}
@@ -51,7 +55,7 @@ use Rattle.galileo_reader.proofs.TreeTexts.{tree-named}
 use Rattle.fta_words.specs.declared.command.Options.{Options}
 use Rattle.fta_run.specs.inner.OneEnd.{AskForOneText, IsDecidedButLast, IsLikeEnd, KeepsGates}
 use Rattle.fta_run.proofs.LikeEnds.{alike, opened}
-use Rattle.fta_run.specs.Later.{IsLater, in_later_files, later_refusal, next_file}
+use Rattle.fta_run.specs.Later.{IsLater, in_later_files, later_file, later_refusal}
 use Rattle.fta_run.specs.Answers.{AllTold, IsOutput, IsSameStatus}
 use Rattle.fta_words.proofs.Requests.{one_request}
 use Rattle.fta_run.proofs.Inputs.{first_short}
@@ -125,36 +129,60 @@ tree_sets_decided false wide limit max_order text = galileo_text_decided IsSameS
 plain_why_decided : (target set : List ℕ) (system : System) → IsPlainSystem system → IsDecided IsSameStatus (why_text target set system)
 plain_why_decided target set system plain = why_decided IsSameStatus itself target set system plain.is_system (token_names system plain)
 
--- the same refusals are the same in the next files
-same_later : (its other a b : Refusal) → IsSameStatus (Refused its) (Refused other) → a ≡ later_refusal its → b ≡ later_refusal other → IsSameStatus (Refused a) (Refused b)
-same_later its other a b same is also =
+-- the same refusals are the same in later files
+same_later : (count : ℕ) (its other a b : Refusal) → IsSameStatus (Refused its) (Refused other) → a ≡ later_refusal count its → b ≡ later_refusal count other → IsSameStatus (Refused a) (Refused b)
+same_later count its other a b same is also =
     elim same [
-      | inl one ↦ let equal : its ≡ other = cc (one) in inl (ap Refused (is ∙ ap later_refusal equal ∙ sym also))
+      | inl one ↦ let equal : its ≡ other = cc (one) in inl (ap Refused (is ∙ ap (later_refusal count) equal ∙ sym also))
       | inr both ↦
           let here : its ≡ syntax_error both.0 both.1 = cc (both.3) in
           let there : other ≡ syntax_error both.0 both.2 = cc (both.4) in
-          inr (next_file both.0, both.1, both.2, ap Refused (is ∙ ap later_refusal here), ap Refused (also ∙ ap later_refusal there))
+          inr (later_file count both.0, both.1, both.2, ap Refused (is ∙ ap (later_refusal count) here), ap Refused (also ∙ ap (later_refusal count) there))
     ]
 
-later_decided : {A : Type 0} (phase : Phase A) → IsDecided IsSameStatus phase → IsDecided IsSameStatus (in_later_files phase)
-later_decided phase is =
-    decided_rejects IsSameStatus (Passes phase) (IsLater phase)
+later_decided : {A : Type 0} (count : ℕ) (phase : Phase A) → IsDecided IsSameStatus phase → IsDecided IsSameStatus (in_later_files count phase)
+later_decided count phase is =
+    decided_rejects IsSameStatus (Passes phase) (IsLater count phase)
     (λ a b h k. decided.one_value IsSameStatus phase is a b h k)
     (λ a refusal passes later. decided.not_both IsSameStatus phase is a (Refused later.0) passes later.1)
-    (λ a b x y. same_later x.0 y.0 a b (decided.one_stop IsSameStatus phase is (Refused x.0) (Refused y.0) x.1 y.1) x.2 y.2)
+    (λ a b x y. same_later count x.0 y.0 a b (decided.one_stop IsSameStatus phase is (Refused x.0) (Refused y.0) x.1 y.1) x.2 y.2)
 
 confirmed_decided : (profile : Profile) (root : Root) (target set : List ℕ) (texts : List (List ℕ)) → length (first_text texts) ≤ 4194304 → IsDecided IsSameStatus (confirmed_in profile root target set texts)
 confirmed_decided profile root target set texts short = (
-  later_decided (model_of_texts profile root (other_texts texts)) (texts_model_decided profile root (other_texts texts)),
+  later_decided 1 (model_of_texts profile root (other_texts texts)) (texts_model_decided profile root (other_texts texts)),
   λ model at.
       let plain : IsPlainSystem model.system = (plain_texts profile root (other_texts texts) (Ok model) at).system in
-      confirm_decided IsSameStatus itself (first_text texts) model.system plain.is_system (fact_line_names model.system plain) (event_line_names model.system plain) short target set (token_names model.system plain),
+      confirm_decided IsSameStatus itself (first_text texts) model.system plain.is_system (fact_line_names model.system plain) (event_line_names model.system plain) short target (set_asked profile set model.system) (token_names model.system plain),
 )
 
 required_in_decided : (profile : Profile) (root : Root) (tap : Bool) (texts : List (List ℕ)) → IsDecided IsSameStatus (required_in profile root tap texts)
 required_in_decided profile root tap texts = (
-  later_decided (model_of_texts profile root (other_texts texts)) (texts_model_decided profile root (other_texts texts)),
+  later_decided 1 (model_of_texts profile root (other_texts texts)) (texts_model_decided profile root (other_texts texts)),
   λ model at. required-decided IsSameStatus itself model.system tap (first_text texts),
+)
+
+compared_text_decided : (target : List ℕ) (max_order : Option ℕ) (older newer : System) → IsDecided IsSameStatus (compared_text target max_order older newer)
+compared_text_decided target max_order older newer = (
+  target_decided IsSameStatus itself target older,
+  λ before named. (
+    target_decided IsSameStatus itself target newer,
+    λ after named_too. (
+      slice_decided IsSameStatus itself before older,
+      λ slice served. (
+        slice_decided IsSameStatus itself after newer,
+        λ other served_too. decided_accepts IsSameStatus (TellsChanges older before newer after max_order) (text-once older newer before after max_order),
+      ),
+    ),
+  ),
+)
+
+compared_decided : (profile : Profile) (root : Root) (target : List ℕ) (count : ℕ) (max_order : Option ℕ) (texts : List (List ℕ)) → IsDecided IsSameStatus (compared_in profile root target count max_order texts)
+compared_decided profile root target count max_order texts = (
+  texts_model_decided profile root (take count texts),
+  λ older at. (
+    later_decided count (model_of_texts profile root (drop count texts)) (texts_model_decided profile root (drop count texts)),
+    λ newer behind. compared_text_decided target max_order older.system newer.system,
+  ),
 )
 
 require_decided : (profile : Profile) (root : Root) (tap : Bool) (texts : List (List ℕ)) → IsDecided IsSameStatus (require_in profile root tap texts)
@@ -223,7 +251,7 @@ text_decided profile kind.Make voices asked texts short keeps = make_decided ask
 text_decided profile kind.Galileo voices asked texts short keeps = galileo_in_decided (is_drawn asked.options.form) asked.options asked.files texts keeps
 text_decided profile kind.Paths voices asked texts short keeps =
     (texts_model_decided profile asked.root texts, λ model at. plain_paths_decided asked.target asked.options.paging model.system (plain_model profile asked.root texts model at).system)
-text_decided profile kind.Why voices asked texts short keeps = (texts_model_decided profile asked.root texts, λ model at. plain_why_decided asked.target asked.options.set model.system (plain_model profile asked.root texts model at).system)
+text_decided profile kind.Why voices asked texts short keeps = (texts_model_decided profile asked.root texts, λ model at. plain_why_decided asked.target (set_asked profile asked.options.set model.system) model.system (plain_model profile asked.root texts model at).system)
 text_decided profile kind.Confirm voices asked texts short keeps = confirmed_decided profile asked.root asked.target asked.options.set texts short
 text_decided profile kind.Targets voices asked texts short keeps =
     (texts_model_decided profile asked.root texts, λ model at. decided_accepts IsSameStatus (TellsOrders model.system (asked_targets (is_set asked.options (codes "all")) model)) (one-text model.system (asked_targets (is_set asked.options (codes "all")) model)))
@@ -234,6 +262,7 @@ text_decided profile kind.Manifest voices asked texts short keeps = (texts_model
 text_decided profile kind.Refusals voices asked texts short keeps = absurd keeps
 text_decided profile kind.Probability voices asked texts short keeps = absurd keeps
 text_decided profile kind.Require voices asked texts short keeps = require_decided profile asked.root (is_set asked.options (codes "tap")) texts
+text_decided profile kind.Compare voices asked texts short keeps = compared_decided profile asked.root asked.target asked.number asked.options.paging.max_order texts
 text_decided profile kind.Help voices asked texts short keeps = tt
 text_decided profile kind.Explain voices asked texts short keeps = tt
 text_decided profile kind.Version voices asked texts short keeps = tt
@@ -265,6 +294,7 @@ text_opened profile kind.Probability voices asked texts short = (
   ),
 )
 text_opened profile kind.Require voices asked texts short = decided_opened (text_by profile kind.Require voices asked texts) (text_decided profile kind.Require voices asked texts short tt)
+text_opened profile kind.Compare voices asked texts short = decided_opened (text_by profile kind.Compare voices asked texts) (text_decided profile kind.Compare voices asked texts short tt)
 text_opened profile kind.Help voices asked texts short = decided_opened (text_by profile kind.Help voices asked texts) (text_decided profile kind.Help voices asked texts short tt)
 text_opened profile kind.Explain voices asked texts short = decided_opened (text_by profile kind.Explain voices asked texts) (text_decided profile kind.Explain voices asked texts short tt)
 text_opened profile kind.Version voices asked texts short = decided_opened (text_by profile kind.Version voices asked texts) (text_decided profile kind.Version voices asked texts short tt)
@@ -302,6 +332,7 @@ require_is kind.Place is = absurd (false≢true is)
 require_is kind.Manifest is = absurd (false≢true is)
 require_is kind.Refusals is = absurd (false≢true is)
 require_is kind.Probability is = absurd (false≢true is)
+require_is kind.Compare is = absurd (false≢true is)
 require_is kind.Require is = refl
 require_is kind.Explain is = absurd (false≢true is)
 require_is kind.Help is = absurd (false≢true is)

@@ -1,5 +1,5 @@
 -- How a run ended, and what is due.
-use Rattle.std.proofs.Common.{◌≡◌, ◌∙◌, ◌<◌, ◌⊎◌, ℕ, Bool, true, false, List, [], ◌∷◌, length, Option, None, Some, Result, Ok, Err, refl, sym, ap, subst, inl, inr, codes}
+use Rattle.std.proofs.Common.{◌≡◌, ◌∙◌, ◌<◌, ◌⊎◌, ℕ, Bool, true, false, List, [], ◌∷◌, length, take, drop, Option, None, Some, Result, Ok, Err, refl, sym, ap, subst, inl, inr, codes}
 use Rattle.std.specs.Prelude.{IfOk, IsErrAnd, IsOk, IsOkAnd, MatchResult}
 use Rattle.std.proofs.lemmas.Bool.{false≢true}
 use Rattle.std.proofs.lemmas.Result.{err_from_is_err_and}
@@ -42,7 +42,9 @@ use Rattle.page_tokens.specs.Keys.{asked_digits}
 use Rattle.page_tokens.specs.Starts.{IsStale, LacksStart as LacksBegin}
 use Rattle.path_sets.specs.PathSets.{HasLargePaths}
 use Rattle.system_answers.specs.inner.Ends.{EndsReports}
-use Rattle.fta_run.specs.Due.{confirmed_in, cuts_in, due, first_text, galileo_in, is_require, made_of_texts, made_root, made_target, make_text, model_of_texts, other_texts, output_for, output_with, report_in, require_in, required_in, sets_of_tree, sized_text, text_by, texts_of, within_limits}
+use Rattle.fta_run.specs.Compared.{compared_text}
+use Rattle.fta_run.specs.Sets.{set_asked}
+use Rattle.fta_run.specs.Due.{compared_in, confirmed_in, cuts_in, due, first_text, galileo_in, is_require, made_of_texts, made_root, made_target, make_text, model_of_texts, other_texts, output_for, output_with, report_in, require_in, required_in, sets_of_tree, sized_text, text_by, texts_of, within_limits}
 use Rattle.fta_run.specs.inner.Texts.{request_text, text_due, text_for}
 use Rattle.fta_run.specs.Required.{Output, with_all_met}
 use Rattle.fta_run.specs.Forms.{drawn_words, is_drawn, is_merging, is_wide, picture_legend, profile_of, tree_form, tree_words}
@@ -191,7 +193,7 @@ confirm_stop target set bytes system = (
 )
 
 confirmed_stop : (profile : Profile) (root : Root) (target set : List ℕ) (texts : List (List ℕ)) → StopsOnly IsARefusal (confirmed_in profile root target set texts)
-confirmed_stop profile root target set texts = (refusal_is (IsLater (model_of_texts profile root (other_texts texts))), λ model at. confirm_stop target set (first_text texts) model.system)
+confirmed_stop profile root target set texts = (refusal_is (IsLater 1 (model_of_texts profile root (other_texts texts))), λ model at. confirm_stop target (set_asked profile set model.system) (first_text texts) model.system)
 
 limits_stop : (texts : List (List ℕ)) → StopsOnly IsARefusal (within_limits texts)
 limits_stop texts = (refusal_is (IsFirst (HasTooLong texts)), λ _ short. (refusal_is (IsFirst (HasTooMuch texts)), λ _ little. tt))
@@ -220,7 +222,22 @@ cuts_in_stop profile root target paging tokens texts =
     (refusals (model_of_texts profile root texts) (texts_model_stops profile root texts), λ model at. cuts_stop target paging tokens (asked_digits tokens paging.after profile root target paging.max_order texts) model.system)
 
 require_stop : (profile : Profile) (root : Root) (tap : Bool) (texts : List (List ℕ)) → StopsOnly IsARefusal (require_in profile root tap texts)
-require_stop profile root tap texts = ((refusal_is (IsLater (model_of_texts profile root (other_texts texts))), λ model at. required-stops model.system tap (first_text texts)), λ told at. tt)
+require_stop profile root tap texts = ((refusal_is (IsLater 1 (model_of_texts profile root (other_texts texts))), λ model at. required-stops model.system tap (first_text texts)), λ told at. tt)
+
+compared_text_stop : (target : List ℕ) (max_order : Option ℕ) (older newer : System) → StopsOnly IsARefusal (compared_text target max_order older newer)
+compared_text_stop target max_order older newer = (
+  refusal_is (IsFirst (LacksTarget older target)),
+  λ before named. (
+    refusal_is (IsFirst (LacksTarget newer target)),
+    λ after named_too. (refusal_is (HasLargeSlice older before), λ slice served. (refusal_is (HasLargeSlice newer after), λ other served_too. (λ status none. absurd none))),
+  ),
+)
+
+compared_stop : (profile : Profile) (root : Root) (target : List ℕ) (count : ℕ) (max_order : Option ℕ) (texts : List (List ℕ)) → StopsOnly IsARefusal (compared_in profile root target count max_order texts)
+compared_stop profile root target count max_order texts = (
+  texts_model_stops profile root (take count texts),
+  λ older at. (refusal_is (IsLater count (model_of_texts profile root (drop count texts))), λ newer behind. compared_text_stop target max_order older.system newer.system),
+)
 
 text_stops : (profile : Profile) (asked_kind : Kind) (voices : List Voice) (asked : Request) (texts : List (List ℕ)) → StopsOnly IsAnEnd (text_by profile asked_kind voices asked texts)
 text_stops profile kind.Check voices asked texts = (refusals (model_of_texts profile asked.root texts) (texts_model_stops profile asked.root texts), λ model at. tt)
@@ -237,7 +254,7 @@ text_stops profile kind.Galileo voices asked texts = galileo_in_stop (is_drawn a
 text_stops profile kind.Paths voices asked texts =
     (refusals (model_of_texts profile asked.root texts) (texts_model_stops profile asked.root texts), λ model at. refusals (paths_text asked.target asked.options.paging model.system) (paths_stop asked.target asked.options.paging model.system))
 text_stops profile kind.Why voices asked texts =
-    (refusals (model_of_texts profile asked.root texts) (texts_model_stops profile asked.root texts), λ model at. refusals (why_text asked.target asked.options.set model.system) (why_stop asked.target asked.options.set model.system))
+    (refusals (model_of_texts profile asked.root texts) (texts_model_stops profile asked.root texts), λ model at. refusals (why_text asked.target (set_asked profile asked.options.set model.system) model.system) (why_stop asked.target (set_asked profile asked.options.set model.system) model.system))
 text_stops profile kind.Confirm voices asked texts = refusals (confirmed_in profile asked.root asked.target asked.options.set texts) (confirmed_stop profile asked.root asked.target asked.options.set texts)
 text_stops profile kind.Targets voices asked texts = (refusals (model_of_texts profile asked.root texts) (texts_model_stops profile asked.root texts), λ model at status none. absurd none)
 text_stops profile kind.Events voices asked texts = (refusals (made_of_texts origins_phase profile asked.root texts) (made_stops origins_phase profile (origins_stop profile) asked.root texts), λ model at. tt)
@@ -252,6 +269,8 @@ text_stops profile kind.Probability voices asked texts = (
       (probability_stop asked.target asked.options.hours (is_set asked.options (codes "events")) model.system model.rates),
 )
 text_stops profile kind.Require voices asked texts = refusals (require_in profile asked.root (is_set asked.options (codes "tap")) texts) (require_stop profile asked.root (is_set asked.options (codes "tap")) texts)
+text_stops profile kind.Compare voices asked texts =
+    refusals (compared_in profile asked.root asked.target asked.number asked.options.paging.max_order texts) (compared_stop profile asked.root asked.target asked.number asked.options.paging.max_order texts)
 text_stops profile kind.Help voices asked texts = tt
 text_stops profile kind.Explain voices asked texts = tt
 text_stops profile kind.Version voices asked texts = tt

@@ -1,5 +1,5 @@
 -- What is due: from the bytes of the words and of the files to the text of a command, or to the status with which it ends.
-use Rattle.std.specs.Prelude.{ℕ, Bool, true, false, List, [], ◌∷◌, ◌++◌, length, codes, slice_index_or, drop, Option, None, Some}
+use Rattle.std.specs.Prelude.{ℕ, Bool, true, false, List, [], ◌∷◌, ◌++◌, length, codes, slice_index_or, drop, take, Option, None, Some}
 use Rattle.plain_values.specs.declared.name.Root.{Root}
 use Rattle.aadl_syntax.specs.declared.core_model.Unit.{Unit as FileUnit}
 use Rattle.phases.specs.Phases.{Phase, yields, accepts, tests, answers, rejects, computes, finds, ◌>>=◌}
@@ -31,9 +31,11 @@ use Rattle.fta_run.specs.Words.{Kind, Request, IsRequest, is_set}
 use Rattle.target_orders.specs.Text.{TellsOrders}
 use Rattle.fta_run.specs.Effects.{asked_effects, asked_targets}
 use Rattle.fta_run.specs.Groups.{TellsRefusals}
+use Rattle.fta_run.specs.Compared.{compared_text}
 use Rattle.fta_run.specs.Later.{in_later_files}
 use Rattle.fta_run.specs.Files.{MayContain, NamesTooMany, HasTooLong, HasTooMuch, AreTokens, LacksTokens, AreUnits, LacksUnits}
 use Rattle.fta_run.specs.Model.{HasDuplicate, root_named}
+use Rattle.fta_run.specs.Sets.{set_asked}
 use Rattle.fta_run.specs.Required.{Output, required_text, with_all_met}
 use Rattle.fta_run.specs.Text.{numbers_text}
 use Rattle.system_answers.specs.Derivations.{confirm_text, why_text}
@@ -161,8 +163,8 @@ cuts_in profile root target paging tokens texts = do
 -- the text of `confirm`: of the derivation in the first of these texts, for the model of the root in the files of the others
 abbrev pub confirmed_in : Profile → Root → List ℕ → List ℕ → List (List ℕ) → Phase (List ℕ)
 confirmed_in profile root target set texts = do
-  model ← in_later_files (model_of_texts profile root (other_texts texts))
-  confirm_text target set (first_text texts) model.system
+  model ← in_later_files 1 (model_of_texts profile root (other_texts texts))
+  confirm_text target (set_asked profile set model.system) (first_text texts) model.system
 
 -- the text of `place`: where a byte stands in the first of these texts, which is that of the first of these files
 abbrev pub place_in : List (List ℕ) → ℕ → List (List ℕ) → Phase (List ℕ)
@@ -198,7 +200,7 @@ paths_in profile root target paging texts = do
 abbrev pub why_in : Profile → Root → List ℕ → List ℕ → List (List ℕ) → Phase (List ℕ)
 why_in profile root target set texts = do
   model ← model_of_texts profile root texts
-  why_text target set model.system
+  why_text target (set_asked profile set model.system) model.system
 
 abbrev pub targets_in : Profile → Root → Bool → List (List ℕ) → Phase (List ℕ)
 targets_in profile root all texts = do
@@ -246,7 +248,7 @@ refusals_in profile root files texts = accepts (TellsRefusals (model_of_texts pr
 -- what is told of the requirements in the first of these texts, over the model of the root in files of the others
 abbrev pub required_in : Profile → Root → Bool → List (List ℕ) → Phase Output
 required_in profile root tap texts = do
-  model ← in_later_files (model_of_texts profile root (other_texts texts))
+  model ← in_later_files 1 (model_of_texts profile root (other_texts texts))
   required_text tap (first_text texts) model.system
 
 -- the text of `require`
@@ -254,6 +256,14 @@ abbrev pub require_in : Profile → Root → Bool → List (List ℕ) → Phase 
 require_in profile root tap texts = do
   told ← required_in profile root tap texts
   yields told.text
+
+-- the text of `compare`: what changed from the model of the root in files of the first of these texts, of which there are so many, to that in
+-- files of the others
+abbrev pub compared_in : Profile → Root → List ℕ → ℕ → Option ℕ → List (List ℕ) → Phase (List ℕ)
+compared_in profile root target count max_order texts = do
+  older ← model_of_texts profile root (take count texts)
+  newer ← in_later_files count (model_of_texts profile root (drop count texts))
+  compared_text target max_order older.system newer.system
 
 -- the text of a command, asked with this request, in files of these texts, read by a profile, where these are the reports
 abbrev pub text_by : Profile → Kind → List Voice → Request → List (List ℕ) → Phase (List ℕ)
@@ -275,6 +285,7 @@ text_by profile kind.Manifest voices asked texts = manifest_in profile asked.roo
 text_by profile kind.Refusals voices asked texts = refusals_in profile asked.root asked.files texts
 text_by profile kind.Probability voices asked texts = probability_in profile asked.root asked.target asked.options.hours (is_set asked.options (codes "events")) texts
 text_by profile kind.Require voices asked texts = require_in profile asked.root (is_set asked.options (codes "tap")) texts
+text_by profile kind.Compare voices asked texts = compared_in profile asked.root asked.target asked.number asked.options.paging.max_order texts
 text_by profile kind.Explain voices asked texts = yields (explain_text asked.target)
 text_by profile kind.Help voices asked texts = yields (help_text asked.of)
 text_by profile kind.Version voices asked texts = yields version_text

@@ -1,4 +1,5 @@
 pub mod Answers
+pub mod Compared
 pub mod Later
 pub mod Due
 pub mod Effects
@@ -7,6 +8,7 @@ pub mod Forms
 pub mod Line
 pub mod Model
 pub mod Required
+pub mod Sets
 pub mod Text
 pub mod Words
 pub mod inner

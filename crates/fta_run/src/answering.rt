@@ -12,13 +12,14 @@ ghost use Rattle.model_phases.specs.Named.{IsPlainModel};
 ghost use Rattle.system_answers.specs.inner.Ends.{EndsReports};
 ghost use Rattle.system_answers.specs.Voices.{voices_of};
 ghost use Rattle.fta_run.specs.Answers.{is_by_lines};
-ghost use Rattle.fta_run.specs.Due.{check_in, cuts_in, events_in, first_name, first_text, fmea_in, galileo_in, is_require, made_of_texts, manifest_in, model_of_texts, output_for, paths_in, place_in, probability_in, refusals_in, report_in, required_in, review_in, sets_of_tree, targets_in, text_by, tree_in, why_in};
+ghost use Rattle.fta_run.specs.Due.{check_in, compared_in, cuts_in, events_in, first_name, first_text, fmea_in, galileo_in, is_require, made_of_texts, manifest_in, model_of_texts, output_for, paths_in, place_in, probability_in, refusals_in, report_in, required_in, review_in, sets_of_tree, targets_in, text_by, tree_in, why_in};
 ghost use Rattle.fta_run.specs.inner.Texts.{text_for};
 ghost use Rattle.fta_run.specs.Forms.{drawn_words, is_drawn, picture_legend};
 ghost use Rattle.fta_run.specs.inner.Ready.{IsByLines, answer_output, held_text, ready_text};
 ghost use Rattle.fta_words.specs.Words.{is_set};
 ghost use Rattle.system_answers.specs.Texts.{drawn_text};
 
+use crate::compared::compared;
 use crate::confirmed::confirmation;
 use crate::fmea::table_of;
 use crate::forms::{drawn_legend, is_drawn, is_merging, is_wide, profile_of, tree_form};
@@ -29,6 +30,7 @@ use crate::model::model_of_texts;
 use crate::ready::{Answer, Held, Ready, ready_of};
 use crate::refused::refusals_text;
 use crate::required::required;
+use crate::sets::set_asked;
 use crate::targets::orders_of;
 use crate::text::numbers_of;
 use cutset_writer::ListingPage;
@@ -48,7 +50,7 @@ use text_places::place_text;
 /// The answer on a request whose files have these texts.
 pub fn answer_in(
     alloc: Global,
-    asked: &Request<'_>,
+    asked: &Request,
     texts: Texts,
     reports: &mut Vec<Box<dyn Report>>,
 ) -> Result<Answer, Status>
@@ -85,7 +87,7 @@ fn with_all_met(answer: Result<Ready, Status>) -> Result<Answer, Status>
 fn required_answer(
     alloc: Global,
     profile: Profile,
-    asked: &Request<'_>,
+    asked: &Request,
     texts: Texts,
 ) -> Result<Answer, Status>
     ensures text { MeetsBut IsMemory answer_output (required_in profile asked.now.root (is_set (request_shown asked.now).options (codes "tap")) texts) result }
@@ -103,7 +105,7 @@ fn required_answer(
 fn answer_by(
     alloc: Global,
     profile: Profile,
-    asked: &Request<'_>,
+    asked: &Request,
     texts: Texts,
     reports: &mut Vec<Box<dyn Report>>,
 ) -> Result<Ready, Status>
@@ -114,6 +116,7 @@ fn answer_by(
 {
     let (root, target, options) = (&asked.root, &asked.target, &asked.options);
     let max_order = options.paging.max_order;
+    let names = asked.files.items();
     match asked.kind {
         Kind::Check => ready_of(check(alloc, profile, root, texts)),
         Kind::Cuts => ready_of(cuts(
@@ -125,15 +128,7 @@ fn answer_by(
             options.is_set(b"tokens"),
             texts,
         )),
-        Kind::Tree => tree(
-            alloc,
-            profile,
-            root,
-            target,
-            &options.form,
-            asked.files,
-            texts,
-        ),
+        Kind::Tree => tree(alloc, profile, root, target, &options.form, names, texts),
         Kind::Fmea => fmea(alloc, profile, root, options.is_set(b"all"), texts),
         Kind::Report => ready_of(report(
             alloc,
@@ -146,16 +141,16 @@ fn answer_by(
             reports,
         )),
         Kind::Make => ready_of(make(alloc, asked.number, options.is_set(b"text"))),
-        Kind::Galileo => galileo(alloc, options, asked.files, texts),
+        Kind::Galileo => galileo(alloc, options, names, texts),
         Kind::Paths => ready_of(paths(alloc, profile, root, target, &options.paging, texts)),
         Kind::Why => ready_of(why(alloc, profile, root, target, &options.set, texts)),
         Kind::Confirm => ready_of(confirmation(alloc, profile, root, target, &options.set, texts)),
         Kind::Targets => ready_of(targets(alloc, profile, root, options.is_set(b"all"), texts)),
-        Kind::Events => ready_of(events(alloc, profile, root, asked.files, texts)),
+        Kind::Events => ready_of(events(alloc, profile, root, names, texts)),
         Kind::Review => ready_of(review(alloc, profile, root, texts)),
-        Kind::Place => ready_of(place(alloc, asked.files, asked.number, texts)),
-        Kind::Manifest => ready_of(manifest(alloc, profile, root, asked.files, texts)),
-        Kind::Refusals => ready_of(refusals(alloc, profile, root, asked.files, texts)),
+        Kind::Place => ready_of(place(alloc, names, asked.number, texts)),
+        Kind::Manifest => ready_of(manifest(alloc, profile, root, names, texts)),
+        Kind::Refusals => ready_of(refusals(alloc, profile, root, names, texts)),
         Kind::Probability => ready_of(probability(
             alloc,
             profile,
@@ -167,6 +162,15 @@ fn answer_by(
         )),
         // It is answered before.
         Kind::Require => Err(Status::Memory),
+        Kind::Compare => ready_of(compare(
+            alloc,
+            profile,
+            root,
+            target,
+            asked.number,
+            max_order,
+            texts,
+        )),
         Kind::Explain => Ok(Ready::Held(explain(target))),
         Kind::Help => ready_of(help(alloc, asked.of)),
         Kind::Version => Ok(Ready::Held(Held::Fixed(version_text()))),
@@ -370,7 +374,24 @@ fn why(
     ensures { MeetsBut IsMemory held_text (why_in profile root.now target.now set.now texts) result }
 {
     let model = flat_model(alloc, profile, root, texts)?;
-    let text = system_answers::why(alloc, &model.system, target, set)?;
+    let set = set_asked(alloc, profile, set, &model.system)?;
+    let text = system_answers::why(alloc, &model.system, target, &set)?;
+    Ok(Held::Text(text))
+}
+
+/// What changed from the model of the root in the older files, of which there are so many, to that in the newer ones.
+fn compare(
+    alloc: Global,
+    profile: Profile,
+    root: &Root,
+    target: &Name,
+    count: u32,
+    max_order: Option<u32>,
+    texts: Texts,
+) -> Result<Held, Status>
+    ensures { MeetsBut IsMemory held_text (compared_in profile root.now target.now count max_order texts) result }
+{
+    let text = compared(alloc, profile, root, target, count, max_order, texts)?;
     Ok(Held::Text(text))
 }
 

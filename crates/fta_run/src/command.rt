@@ -99,7 +99,7 @@ pub fn write_status<E: Sink>(
     ensures at_most_the_line { TookPrefix (status_line (file_words words.now) (map label reports.now.items) status.now) (E.seen err.old) (E.seen err.new) }
 {
     let files = file_words(words);
-    let _written = write_line(err, files, reports, status);
+    let _written = write_line(err, &files, reports, status);
 }
 
 /// How a run ended that answered this.
@@ -153,6 +153,6 @@ fn answer<F: Files>(
 {
     let names = names_of(alloc, reports)?;
     let asked = request_of(alloc, words, names.items())?;
-    let texts = read_texts(alloc, files, asked.files)?;
+    let texts = read_texts(alloc, files, asked.files.items())?;
     answer_in(alloc, &asked, texts, reports)
 }

@@ -23,8 +23,8 @@ use system_answers::names_of;
 
 /// The names of the files of the request that words give, and what was read of each.
 #[derive(Drop)]
-pub struct ReadFiles<'a> {
-    pub names: &'a [Word],
+pub struct ReadFiles {
+    pub names: List<Word>,
     pub texts: List<Name>,
 }
 
@@ -117,13 +117,13 @@ pub fn run_read<F: Files, S: Sink, E: Sink>(
 pub fn run_held<S: Sink, E: Sink>(
     alloc: Global,
     words: &[Word],
-    read: &ReadFiles<'_>,
+    read: &ReadFiles,
     out: &mut S,
     err: &mut E,
     reports: &mut Vec<Box<dyn Report>>,
 ) -> Status
     ensures words { AnswersWords result (labels (voices_of label text reports.old.items)) words.now }
-    ensures told { (contents : List ℕ → Option (List ℕ)) → IsToRead (labels (voices_of label text reports.old.items)) words.now read.now.names.now → AreFronts contents read.now.names.now read.now.texts → RanOn words.now (text_of read.now.names.now read.now.texts) (voices_of label text reports.old.items) result (S.seen out.old) (S.seen out.new) }
+    ensures told { (contents : List ℕ → Option (List ℕ)) → IsToRead (labels (voices_of label text reports.old.items)) words.now read.now.names → AreFronts contents read.now.names read.now.texts → RanOn words.now (text_of read.now.names read.now.texts) (voices_of label text reports.old.items) result (S.seen out.old) (S.seen out.new) }
     ensures begins { (asked : AnyRequest) → IsRequest (labels (voices_of label text reports.old.items)) words.now asked → BeginsWithMemory asked result (S.seen out.old) (S.seen out.new) }
     ensures reports { (asked : AnyRequest) → IsRequest (labels (voices_of label text reports.old.items)) words.now asked → AtChosen asked.options.chosen (IsKept text label report_faults) reports.old.items reports.new.items }
     ensures no_reports { GiveNoRequest (labels (voices_of label text reports.old.items)) words.now → reports.new ≡ reports.old }
@@ -134,7 +134,7 @@ pub fn run_held<S: Sink, E: Sink>(
     ensures at_most_the_line { TookPrefix (status_line (file_words words.now) (labels (voices_of label text reports.old.items)) result) (E.seen err.old) (E.seen err.new) }
 {
     let mut held = HeldFiles {
-        names: read.names,
+        names: read.names.items(),
         texts: read.texts.items(),
     };
     run(alloc, words, &mut held, out, err, reports)
@@ -142,14 +142,14 @@ pub fn run_held<S: Sink, E: Sink>(
 
 /// The files of the request that the words give, as they were read; none where there is no request, or where too many are named. A status
 /// is want of memory, or a fault of a file of the request.
-pub fn read_first<'a, F: Files>(
+pub fn read_first<F: Files>(
     alloc: Global,
-    words: &'a [Word],
+    words: &[Word],
     files: &mut F,
     reports: &Vec<Box<dyn Report>>,
-) -> Result<ReadFiles<'a>, Status>
-    ensures named { IfOk result (λ read. IsToRead (labels (voices_of label text reports.now.items)) words.now read.names.now) }
-    ensures fronts { IfOk result (λ read. AreFronts (F.contents files.old) read.names.now read.texts) }
+) -> Result<ReadFiles, Status>
+    ensures named { IfOk result (λ read. IsToRead (labels (voices_of label text reports.now.items)) words.now read.names) }
+    ensures fronts { IfOk result (λ read. AreFronts (F.contents files.old) read.names read.texts) }
     ensures fault { IfErr result (IsReadEnd (file_words words.now) (F.faults files.old) (F.faults files.new)) }
     ensures words { IfErr result (λ status. AnswersWords status (labels (voices_of label text reports.now.items)) words.now) }
     ensures many { IfErr result (λ status. most_files < length (file_words words.now) → IsManyAnswer status) }
@@ -157,36 +157,40 @@ pub fn read_first<'a, F: Files>(
     ensures too_many { most_files < length (file_words words.now) → files.new ≡ files.old }
 {
     let names = names_to_read(alloc, words, reports)?;
-    if names.is_empty() {
+    if names.items().is_empty() {
         return Ok(ReadFiles {
-            names: &[],
+            names,
             texts: List::new(alloc),
         });
     }
-    let texts = read_files(alloc, files, names)?;
+    let texts = read_files(alloc, files, names.items())?;
     Ok(ReadFiles { names, texts })
 }
 
 /// The names of the files of the request that the words give; none where there is no request, or where they are too many.
-fn names_to_read<'a>(
+fn names_to_read(
     alloc: Global,
-    words: &'a [Word],
+    words: &[Word],
     reports: &Vec<Box<dyn Report>>,
-) -> Result<&'a [Word], Status>
-    ensures names { IfOk result (λ names. IsToRead (labels (voices_of label text reports.now.items)) words.now names.now) }
+) -> Result<List<Word>, Status>
+    ensures names { IfOk result (λ names. IsToRead (labels (voices_of label text reports.now.items)) words.now names) }
     ensures memory { IfErr result (λ status. status ≡ Memory) }
 {
     let names = names_of(alloc, reports)?;
     match request_of(alloc, words, names.items()) {
-        Ok(asked) => Ok(if_few(asked.files)),
-        Err(Status::Usage) => Ok(&[]),
+        Ok(asked) => Ok(if_few(alloc, asked.files)),
+        Err(Status::Usage) => Ok(List::new(alloc)),
         Err(_) => Err(Status::Memory),
     }
 }
 
 /// These names, where they are not too many, and else none.
-fn if_few(names: &[Word]) -> &[Word]
-    ensures { result.now ≡ cond (nat_lt most_files (length names.now)) [] names.now }
+fn if_few(alloc: Global, names: List<Word>) -> List<Word>
+    ensures { result ≡ cond (nat_lt most_files (length names)) [] names }
 {
-    if names.len() > MOST_FILES { &[] } else { names }
+    if names.items().len() > MOST_FILES {
+        List::new(alloc)
+    } else {
+        names
+    }
 }

@@ -1,4 +1,4 @@
-ghost use Rattle.std.specs.Prelude.{◌≡◌, ℕ, ◌<◌, ◌≤◌, suc, List, [], ◌∷◌, MatchResult, IfOk, IfErr, IfSome, Err, All, length, sum_by, take};
+ghost use Rattle.std.specs.Prelude.{◌≡◌, ℕ, ◌<◌, ◌≤◌, suc, List, [], ◌∷◌, MatchResult, IfOk, IfErr, IfSome, Err, All, drop, length, sum_by, take};
 ghost use Rattle.plain_values.specs.declared.refusal.Refusal.{Refusal};
 ghost use Rattle.plain_values.specs.declared.refusal.Code.TheVariants.{TooManyFiles};
 ghost use Rattle.plain_values.specs.declared.refusal.Stop.TheVariants.{Refused};
@@ -67,6 +67,26 @@ impl Texts {
             Some(text) => text.items(),
             None => &[],
         }
+    }
+
+    /// The texts of the first files, of which there are so many.
+    pub fn before(&self, count: u32) -> &[Name]
+        ensures texts { result.now ≡ take count self.now }
+        ensures few { length result.now ≤ most_files }
+        ensures short { All (λ text. length text ≤ most_bytes) result.now }
+    {
+        let texts = self.texts.items();
+        &texts[..(count as usize).min(texts.len())]
+    }
+
+    /// The texts of the files behind so many.
+    pub fn behind(&self, count: u32) -> &[Name]
+        ensures texts { result.now ≡ drop count self.now }
+        ensures few { length result.now ≤ most_files }
+        ensures short { All (λ text. length text ≤ most_bytes) result.now }
+    {
+        let texts = self.texts.items();
+        &texts[(count as usize).min(texts.len())..]
     }
 
     /// The texts of the other files.

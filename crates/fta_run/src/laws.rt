@@ -12,6 +12,7 @@ ghost use Rattle.fta_run.specs.Due.{due, model_of_texts, other_texts, texts_of};
 ghost use Rattle.fta_run.specs.inner.Texts.{request_text};
 ghost use Rattle.fta_run.specs.Forms.{profile_of};
 ghost use Rattle.fta_run.specs.Required.{Output};
+ghost use Rattle.fta_run.specs.Sets.{set_asked};
 ghost use Rattle.fta_run.specs.inner.Files.{StandsBefore, ask};
 ghost use Rattle.fta_run.specs.inner.OneEnd.{AskForOneText, IsLikeEnd};
 ghost use Rattle.fta_words.specs.declared.kind.Kind.TheVariants.{Confirm, Why};
@@ -49,5 +50,5 @@ pub fn holds_where_confirmed()
     ensures { (contents : List ℕ → Option (List ℕ)) (voices : List Voice) (asked : Request) (files : List (List ℕ)) (answer : List ℕ)
         → Passes (request_text contents voices (ask Confirm files asked)) answer
         → (texts : List (List ℕ)) × (model : FlatModel) × Passes (texts_of contents files) texts × Passes (model_of_texts (profile_of asked.options.form) asked.root (other_texts texts)) model
-        × ((number : ℕ) × (events : List ℕ) × IsFactNamed model.system asked.target number × IsSetOfText model.system asked.options.set events × Holds model.system (set_of events) number) }
+        × ((number : ℕ) × (events : List ℕ) × IsFactNamed model.system asked.target number × IsSetOfText model.system (set_asked (profile_of asked.options.form) asked.options.set model.system) events × Holds model.system (set_of events) number) }
 {}

@@ -3,6 +3,7 @@
 
 mod answering;
 mod command;
+mod compared;
 mod confirmed;
 mod few;
 mod fmea;
@@ -17,6 +18,7 @@ mod model;
 mod ready;
 mod refused;
 mod required;
+mod sets;
 mod targets;
 mod text;
 mod words;

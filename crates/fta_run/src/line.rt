@@ -1,24 +1,24 @@
 ghost use Rattle.std.specs.Prelude.{◌≡◌, ◌++◌, codes, decimal, map};
 ghost use Rattle.fta_outside.specs.inner.Outside.{Writes};
-ghost use Rattle.event_lines.specs.Text.{file_word};
+ghost use Rattle.fta_words.specs.inner.Words.{all_names};
 ghost use Rattle.fta_run.specs.Line.{constant_text, limit_text, place_text, refusal_text, report_name, stale_text, status_line};
 
 use cut_reports::name_of;
-use event_lines::file_word;
 use fta_outside::{Report, Sink, SinkFailed, write_all};
+use fta_words::FileWords;
 use itoa::Buffer;
 use phases::Status;
-use plain_values::{Place, Refusal, Word};
+use plain_values::{Place, Refusal};
 
 /// Writes the line of a status to the error stream, where these files are named and these are the reports; nothing where all was
 /// written. It takes no memory.
 pub fn write_line<E: Sink>(
     err: &mut E,
-    files: &[Word],
+    files: &FileWords<'_>,
     reports: &Vec<Box<dyn Report>>,
     status: &Status,
 ) -> Result<(), SinkFailed>
-    ensures { Writes (status_line files.now (map label reports.now.items) status.now) result (E.seen err.old) (E.seen err.new) }
+    ensures { Writes (status_line (all_names files.now) (map label reports.now.items) status.now) result (E.seen err.old) (E.seen err.new) }
 {
     match status {
         Status::Done => Ok(()),
@@ -28,7 +28,7 @@ pub fn write_line<E: Sink>(
         Status::Constant(always) => write_constant(err, *always),
         Status::StaleToken { token, input } => write_stale(err, token, input),
         Status::Unrated(event) => write_unrated(err, event.items()),
-        Status::ReadFault(file) => write_unread(err, file_word(files, *file)),
+        Status::ReadFault(file) => write_unread(err, files.word(*file)),
         Status::WriteFault => write_piece(err, b"aadl_fta: cannot write\n"),
         Status::ReportFault(place) => write_failed(err, report_name(reports, *place)),
         Status::Memory => write_piece(err, b"aadl_fta: out of memory\n"),
@@ -90,8 +90,12 @@ fn report_name(reports: &Vec<Box<dyn Report>>, place: u32) -> &[u8]
     }
 }
 
-fn write_refusal<E: Sink>(err: &mut E, files: &[Word], refusal: &Refusal) -> Result<(), SinkFailed>
-    ensures { Writes (codes "aadl_fta: " ++ (refusal_text files.now refusal.now ++ codes "\n")) result (E.seen err.old) (E.seen err.new) }
+fn write_refusal<E: Sink>(
+    err: &mut E,
+    files: &FileWords<'_>,
+    refusal: &Refusal,
+) -> Result<(), SinkFailed>
+    ensures { Writes (codes "aadl_fta: " ++ (refusal_text (all_names files.now) refusal.now ++ codes "\n")) result (E.seen err.old) (E.seen err.new) }
 {
     write_two(err, b"aadl_fta: ", refusal.code.text().as_bytes())?;
     write_place_and_limit(err, files, refusal)
@@ -99,22 +103,22 @@ fn write_refusal<E: Sink>(err: &mut E, files: &[Word], refusal: &Refusal) -> Res
 
 fn write_place_and_limit<E: Sink>(
     err: &mut E,
-    files: &[Word],
+    files: &FileWords<'_>,
     refusal: &Refusal,
 ) -> Result<(), SinkFailed>
-    ensures { Writes (place_text files.now refusal.now.place ++ (limit_text refusal.now.limit ++ codes "\n")) result (E.seen err.old) (E.seen err.new) }
+    ensures { Writes (place_text (all_names files.now) refusal.now.place ++ (limit_text refusal.now.limit ++ codes "\n")) result (E.seen err.old) (E.seen err.new) }
 {
     write_place(err, files, refusal.place)?;
     write_limit(err, refusal.limit)
 }
 
-fn write_place<E: Sink>(err: &mut E, files: &[Word], place: Place) -> Result<(), SinkFailed>
-    ensures { Writes (place_text files.now place) result (E.seen err.old) (E.seen err.new) }
+fn write_place<E: Sink>(err: &mut E, files: &FileWords<'_>, place: Place) -> Result<(), SinkFailed>
+    ensures { Writes (place_text (all_names files.now) place) result (E.seen err.old) (E.seen err.new) }
 {
     match place {
         Place::Words => Ok(()),
-        Place::Whole(file) => write_two(err, b" ", file_word(files, file)),
-        Place::At { file, at } => write_byte(err, file_word(files, file), at),
+        Place::Whole(file) => write_two(err, b" ", files.word(file)),
+        Place::At { file, at } => write_byte(err, files.word(file), at),
     }
 }
 

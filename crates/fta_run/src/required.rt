@@ -27,7 +27,7 @@ pub fn required(
 ) -> Result<Told, Status>
     ensures { MeetsBut IsMemory output_of (required_in profile root.now tap texts) result }
 {
-    let model = later_model(alloc, profile, root, texts.others())?;
+    let model = later_model(alloc, profile, root, 1, texts.others())?;
     let told = told_over(alloc, &model.system, texts.first(), tap)?;
     Ok(told)
 }

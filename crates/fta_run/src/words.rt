@@ -10,11 +10,7 @@ use plain_values::{Name, Word};
 use std::alloc::Global;
 
 /// The request that the words give, where the reports have these names; Usage where they give none.
-pub fn request_of<'a>(
-    alloc: Global,
-    words: &'a [Word],
-    names: &[Name],
-) -> Result<Request<'a>, Status>
+pub fn request_of(alloc: Global, words: &[Word], names: &[Name]) -> Result<Request, Status>
     ensures { MeetsBut IsMemory request_shown (finds (IsRequest names.now words.now) Usage) result }
 {
     match Request::read(alloc, words, names) {

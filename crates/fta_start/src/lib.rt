@@ -13,6 +13,7 @@ ghost use Rattle.fta_run.specs.Words.{file_words};
 use explained_calls::run_explained;
 use fta_outside::{DiskFiles, Files, Report, Sink, StdSink};
 use fta_run::{Status, write_line};
+use fta_words::FileWords;
 use plain_values::{List, Word};
 use std::alloc::{AllocError, Global};
 use std::env;
@@ -87,7 +88,7 @@ pub fn start<P: Program>(rt: &HostRuntime, program: &P) -> ExitCode {
 fn stopped<E: Sink>(alloc: Global, status: Status, err: &mut E) -> Status
     ensures { result ≡ status }
 {
-    let _written = write_line(err, &[], &Vec::new(alloc), &status);
+    let _written = write_line(err, &FileWords::of(&[]), &Vec::new(alloc), &status);
     status
 }
 

@@ -14,7 +14,7 @@ use Rattle.fta_words.specs.declared.kind.Kind.{Kind}
 use Rattle.fta_words.specs.declared.kind.Shape.{Shape}
 use Rattle.fta_words.specs.declared.kind.Shape.TheVariants as shape
 use Rattle.fta_words.specs.Table.{flags_of, formats_of, gate_choices, is_among, kind_named, name_of, profile_choices, required_of, shape_of, unrated_choices, valued_of}
-use Rattle.fta_words.specs.Words.{Alone, Apart, AreChosen, AreHours, AreOptions, Attached, Given, IsAsked, IsChoice, IsFolded, IsNumberText, IsInFull, IsPlainWord, IsRequest, IsRoot, NamesModel, Request, Say, SayForm, Says, Spelling, before_options, file_words, files_in, in_full, is_fit, is_given, is_help_of, is_option, option_words, reports_for, shape_named, spelled, value_of, word_in_full}
+use Rattle.fta_words.specs.Words.{Alone, Apart, AreChosen, AreHours, AreOptions, Attached, Given, IsAsked, IsChoice, IsFolded, IsNumberText, IsInFull, IsPlainWord, IsRequest, IsRoot, NamesModel, Request, Say, SayForm, Says, Spelling, before_options, before_to, file_words, files_in, in_full, is_fit, is_given, is_help_of, is_option, option_words, reports_for, shape_named, spelled, value_of, without_to, word_in_full}
 use Rattle.fta_words.specs.inner.Reading.{AnswersInFull, IsRead, ReadsAs}
 use Rattle.fta_words.specs.inner.Shown.{request_shown}
 use Rattle.fta_words.proofs.AllKinds.{name_is_plain}
@@ -228,6 +228,18 @@ one_asked shape.Requirements words root root₂ target target₂ number number�
     let both : x.0 ∷ files ≡ y.0 ∷ files₂ = sym x.1 ∙ y.1 in
     let word : x.0 ≡ y.0 = cc (both) in
     record { roots = same_model x.0 y.0 root root₂ files files₂ word x.2 y.2; targets = x.3 ∙ sym y.3; numbers = x.4 ∙ sym y.4; ofs = x.5 ∙ sym y.5; all_files = cc (both) }
+one_asked shape.Compared words root root₂ target target₂ number number₂ of of₂ files files₂ x y =
+    let both : x.0 ∷ x.1 ∷ x.2 ≡ y.0 ∷ y.1 ∷ y.2 = sym x.3 ∙ y.3 in
+    let word : x.0 ≡ y.0 = cc (both) in
+    let named : x.1 ≡ y.1 = cc (both) in
+    let names : x.2 ≡ y.2 = cc (both) in
+    record {
+      roots = same_model x.0 y.0 root root₂ (before_to x.2) (before_to y.2) word x.4 y.4;
+      targets = x.6 ∙ ap folded named ∙ sym y.6;
+      numbers = x.7 ∙ ap (λ (l : List (List ℕ)). length (before_to l)) names ∙ sym y.7;
+      ofs = x.8 ∙ sym y.8;
+      all_files = x.9 ∙ ap without_to names ∙ sym y.9;
+    }
 one_asked shape.Number words root root₂ target target₂ number number₂ of of₂ files files₂ x y =
     let both : x.0 ∷ [] ≡ y.0 ∷ [] = sym x.1 ∙ y.1 in
     let word : x.0 ≡ y.0 = cc (both) in
@@ -283,6 +295,7 @@ files_asked shape.Model name words root target number of files x = ap (drop 1) x
 files_asked shape.Target name words root target number of files x = ap (drop 2) x.2
 files_asked shape.Derivation name words root target number of files x = ap (drop 2) x.2
 files_asked shape.Requirements name words root target number of files x = ap (drop 1) x.1
+files_asked shape.Compared name words root target number of files x = ap (λ (l : List (List ℕ)). without_to (drop 2 l)) x.3 ∙ sym x.9
 files_asked shape.Number name words root target number of files x = ap (drop 1) x.1 ∙ sym x.8
 files_asked shape.File name words root target number of files x = x.0
 files_asked shape.Place name words root target number of files x = ap (take 1) x.1 ∙ only_file files x.0 x.2
@@ -315,6 +328,8 @@ alone_no_file shape.Derivation word true = refl
 alone_no_file shape.Derivation word false = refl
 alone_no_file shape.Requirements word true = refl
 alone_no_file shape.Requirements word false = refl
+alone_no_file shape.Compared word true = refl
+alone_no_file shape.Compared word false = refl
 alone_no_file shape.Code word true = refl
 alone_no_file shape.Code word false = refl
 alone_no_file shape.Topic word true = refl

@@ -30,9 +30,10 @@ place_of kind.Manifest = 14
 place_of kind.Refusals = 15
 place_of kind.Probability = 16
 place_of kind.Require = 17
-place_of kind.Explain = 18
-place_of kind.Help = 19
-place_of kind.Version = 20
+place_of kind.Compare = 18
+place_of kind.Explain = 19
+place_of kind.Help = 20
+place_of kind.Version = 21
 
 -- the name of a command
 abbrev pub name_of : Kind → List ℕ

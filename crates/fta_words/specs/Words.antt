@@ -219,7 +219,7 @@ pub record Request : Type 0 where
   pub root : Root
   -- the name of a fact of it, or that of the code of a refusal
   pub target : List ℕ
-  -- the size of a model that is made, or a byte of a text
+  -- the size of a model that is made, a byte of a text, or how many of the files are the older ones
   pub number : ℕ
   -- the command on which help is asked for
   pub of : Option Kind
@@ -231,6 +231,24 @@ pub record Request : Type 0 where
 pub record NamesModel (root_word : List ℕ) (root : Root) (files : List (List ℕ)) : Type 0 where
   pub root_is : IsRoot (folded root_word) root
   pub some_file : 0 < length files
+
+-- whether a word is `to`, which stands between the older files and the newer ones of a command that compares
+abbrev pub is_to : List ℕ → Bool
+is_to word = is_same_text word (codes "to")
+
+-- the words before the first `to`, or all where there is none
+abbrev pub before_to : List (List ℕ) → List (List ℕ)
+before_to [] = []
+before_to (word ∷ words) = if is_to word then [] else word ∷ before_to words
+
+-- the words behind the first `to`; none where there is none
+abbrev pub behind_to : List (List ℕ) → List (List ℕ)
+behind_to [] = []
+behind_to (word ∷ words) = if is_to word then words else behind_to words
+
+-- the words without the first `to`
+abbrev pub without_to : List (List ℕ) → List (List ℕ)
+without_to words = before_to words ++ behind_to words
 
 -- no root
 abbrev pub no_root : Root
@@ -250,6 +268,9 @@ IsAsked shape.Derivation words root target number of files =
 IsAsked shape.Requirements words root target number of files =
     (root_word : List ℕ) × (words ≡ root_word ∷ files) × NamesModel root_word root files
     × (target ≡ []) × (number ≡ 0) × (of ≡ None) × (2 ≤ length files)
+IsAsked shape.Compared words root target number of files =
+    (root_word : List ℕ) × (target_word : List ℕ) × (names : List (List ℕ)) × (words ≡ root_word ∷ target_word ∷ names) × NamesModel root_word root (before_to names)
+    × (0 < length (behind_to names)) × IsFolded target_word target × (number ≡ length (before_to names)) × (of ≡ None) × (files ≡ without_to names)
 IsAsked shape.Number words root target number of files =
     (number_word : List ℕ) × (words ≡ number_word ∷ []) × IsNumberText number_word number × (1 ≤ number) × (number ≤ 512)
     × (root ≡ no_root) × (target ≡ []) × (of ≡ None) × (files ≡ [])
@@ -332,6 +353,7 @@ shape_named name = option_map_or shape_of (kind_named name) shape.Target
 abbrev pub files_in : Shape → List (List ℕ) → List (List ℕ)
 files_in shape.Model words = drop 2 words
 files_in shape.Requirements words = drop 2 words
+files_in shape.Compared words = without_to (drop 3 words)
 files_in shape.Number words = drop 2 words
 files_in shape.Code words = drop 2 words
 files_in shape.File words = drop 1 words

@@ -5,6 +5,7 @@ ghost use Rattle.fta_words.specs.declared.kind.Kind.{Kind};
 ghost use Rattle.fta_words.specs.declared.kind.Shape.TheVariants as shape;
 ghost use Rattle.fta_words.specs.inner.Reading.{AsksAs};
 
+use crate::files::{before_to, behind_to, copies, without_to};
 use crate::kind::{Kind, Shape};
 use crate::number::number_of;
 use crate::root::root_in;
@@ -14,16 +15,16 @@ use std::alloc::Global;
 
 /// What the plain words behind the name of a command say. What their shape does not have is empty, zero or none.
 #[derive(Drop)]
-pub(crate) struct Asked<'a> {
+pub(crate) struct Asked {
     pub(crate) root: Root,
     pub(crate) target: Name,
     pub(crate) number: u32,
     pub(crate) of: Option<Kind>,
-    pub(crate) files: &'a [Word],
+    pub(crate) files: List<Word>,
 }
 
 /// What the plain words behind the name of a command say, if they have its shape.
-pub(crate) fn asked_of<'a>(alloc: Global, kind: Kind, words: &'a [Word]) -> Mem<Option<Asked<'a>>>
+pub(crate) fn asked_of(alloc: Global, kind: Kind, words: &[Word]) -> Mem<Option<Asked>>
     ensures { IfOk result (AsksAs (shape_of kind) words.now) }
 {
     match shape_of(kind) {
@@ -31,9 +32,10 @@ pub(crate) fn asked_of<'a>(alloc: Global, kind: Kind, words: &'a [Word]) -> Mem<
         Shape::Target => target(alloc, words),
         Shape::Derivation => derivation(alloc, words),
         Shape::Requirements => requirements(alloc, words),
+        Shape::Compared => compared(alloc, words),
         Shape::Number => Ok(number(alloc, words)),
-        Shape::File => Ok(file(alloc, words)),
-        Shape::Place => Ok(place(alloc, words)),
+        Shape::File => file(alloc, words),
+        Shape::Place => place(alloc, words),
         Shape::Code => code(alloc, words),
         Shape::Topic => Ok(topic(alloc, words)),
         Shape::Alone => Ok(alone(alloc, words)),
@@ -41,7 +43,7 @@ pub(crate) fn asked_of<'a>(alloc: Global, kind: Kind, words: &'a [Word]) -> Mem<
 }
 
 /// `ROOT FILE..`
-fn model<'a>(alloc: Global, words: &'a [Word]) -> Mem<Option<Asked<'a>>>
+fn model(alloc: Global, words: &[Word]) -> Mem<Option<Asked>>
     ensures { IfOk result (AsksAs shape.Model words.now) }
 {
     let [root, files @ ..] = words else {
@@ -55,12 +57,12 @@ fn model<'a>(alloc: Global, words: &'a [Word]) -> Mem<Option<Asked<'a>>>
         target: List::new(alloc),
         number: 0,
         of: None,
-        files,
+        files: copies(alloc, files)?,
     }))
 }
 
 /// `ROOT TARGET FILE..`
-fn target<'a>(alloc: Global, words: &'a [Word]) -> Mem<Option<Asked<'a>>>
+fn target(alloc: Global, words: &[Word]) -> Mem<Option<Asked>>
     ensures { IfOk result (AsksAs shape.Target words.now) }
 {
     let [root, target, files @ ..] = words else {
@@ -75,12 +77,12 @@ fn target<'a>(alloc: Global, words: &'a [Word]) -> Mem<Option<Asked<'a>>>
         target,
         number: 0,
         of: None,
-        files,
+        files: copies(alloc, files)?,
     }))
 }
 
 /// `ROOT TARGET DERIVATION FILE..`
-fn derivation<'a>(alloc: Global, words: &'a [Word]) -> Mem<Option<Asked<'a>>>
+fn derivation(alloc: Global, words: &[Word]) -> Mem<Option<Asked>>
     ensures { IfOk result (AsksAs shape.Derivation words.now) }
 {
     if words.len() < 4 {
@@ -90,7 +92,7 @@ fn derivation<'a>(alloc: Global, words: &'a [Word]) -> Mem<Option<Asked<'a>>>
 }
 
 /// `ROOT REQUIREMENTS FILE..`
-fn requirements<'a>(alloc: Global, words: &'a [Word]) -> Mem<Option<Asked<'a>>>
+fn requirements(alloc: Global, words: &[Word]) -> Mem<Option<Asked>>
     ensures { IfOk result (AsksAs shape.Requirements words.now) }
 {
     if words.len() < 3 {
@@ -99,8 +101,33 @@ fn requirements<'a>(alloc: Global, words: &'a [Word]) -> Mem<Option<Asked<'a>>>
     model(alloc, words)
 }
 
+/// `ROOT TARGET FILE.. to FILE..`
+fn compared(alloc: Global, words: &[Word]) -> Mem<Option<Asked>>
+    ensures { IfOk result (AsksAs shape.Compared words.now) }
+{
+    let [root, target, names @ ..] = words else {
+        return Ok(None);
+    };
+    let older = before_to(names);
+    if behind_to(names).is_empty() {
+        return Ok(None);
+    }
+    let Some(root) = root_in(alloc, root.items(), older)? else {
+        return Ok(None);
+    };
+    let target = fold(alloc, target.items())?;
+    let number = copies(alloc, older)?.len_u32();
+    Ok(Some(Asked {
+        root,
+        target,
+        number,
+        of: None,
+        files: without_to(alloc, names)?,
+    }))
+}
+
 /// `N`, from 1 to 512
-fn number<'a>(alloc: Global, words: &'a [Word]) -> Option<Asked<'a>>
+fn number(alloc: Global, words: &[Word]) -> Option<Asked>
     ensures { AsksAs shape.Number words.now result }
 {
     let [number] = words else {
@@ -115,50 +142,50 @@ fn number<'a>(alloc: Global, words: &'a [Word]) -> Option<Asked<'a>>
         target: List::new(alloc),
         number,
         of: None,
-        files: &[],
+        files: List::new(alloc),
     })
 }
 
 /// `FILE`
-fn file<'a>(alloc: Global, words: &'a [Word]) -> Option<Asked<'a>>
-    ensures { AsksAs shape.File words.now result }
+fn file(alloc: Global, words: &[Word]) -> Mem<Option<Asked>>
+    ensures { IfOk result (AsksAs shape.File words.now) }
 {
     if words.len() != 1 {
-        return None;
+        return Ok(None);
     }
-    Some(Asked {
+    Ok(Some(Asked {
         root: no_root(alloc),
         target: List::new(alloc),
         number: 0,
         of: None,
-        files: words,
-    })
+        files: copies(alloc, words)?,
+    }))
 }
 
 /// `FILE BYTE`
-fn place<'a>(alloc: Global, words: &'a [Word]) -> Option<Asked<'a>>
-    ensures { AsksAs shape.Place words.now result }
+fn place(alloc: Global, words: &[Word]) -> Mem<Option<Asked>>
+    ensures { IfOk result (AsksAs shape.Place words.now) }
 {
     let [files @ .., byte] = words else {
-        return None;
+        return Ok(None);
     };
     if files.len() != 1 {
-        return None;
+        return Ok(None);
     }
     let Some(number) = number_of(byte.items()) else {
-        return None;
+        return Ok(None);
     };
-    Some(Asked {
+    Ok(Some(Asked {
         root: no_root(alloc),
         target: List::new(alloc),
         number,
         of: None,
-        files,
-    })
+        files: copies(alloc, files)?,
+    }))
 }
 
 /// The name of the code of a refusal.
-fn code<'a>(alloc: Global, words: &'a [Word]) -> Mem<Option<Asked<'a>>>
+fn code(alloc: Global, words: &[Word]) -> Mem<Option<Asked>>
     ensures { IfOk result (AsksAs shape.Code words.now) }
 {
     let [code] = words else {
@@ -173,12 +200,12 @@ fn code<'a>(alloc: Global, words: &'a [Word]) -> Mem<Option<Asked<'a>>>
         target,
         number: 0,
         of: None,
-        files: &[],
+        files: List::new(alloc),
     }))
 }
 
 /// The name of a command, or nothing.
-fn topic<'a>(alloc: Global, words: &'a [Word]) -> Option<Asked<'a>>
+fn topic(alloc: Global, words: &[Word]) -> Option<Asked>
     ensures { AsksAs shape.Topic words.now result }
 {
     let of = topic_in(words)?;
@@ -187,7 +214,7 @@ fn topic<'a>(alloc: Global, words: &'a [Word]) -> Option<Asked<'a>>
         target: List::new(alloc),
         number: 0,
         of,
-        files: &[],
+        files: List::new(alloc),
     })
 }
 
@@ -203,7 +230,7 @@ fn topic_in(words: &[Word]) -> Option<Option<Kind>>
 }
 
 /// Nothing.
-fn alone<'a>(alloc: Global, words: &'a [Word]) -> Option<Asked<'a>>
+fn alone(alloc: Global, words: &[Word]) -> Option<Asked>
     ensures { AsksAs shape.Alone words.now result }
 {
     if !words.is_empty() {
@@ -214,7 +241,7 @@ fn alone<'a>(alloc: Global, words: &'a [Word]) -> Option<Asked<'a>>
         target: List::new(alloc),
         number: 0,
         of: None,
-        files: words,
+        files: List::new(alloc),
     })
 }
 

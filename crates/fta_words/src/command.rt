@@ -19,19 +19,19 @@ use std::alloc::Global;
 
 /// What the words ask for. What the shape of its command does not have is empty, zero or none.
 #[derive(Drop)]
-pub struct Request<'a> {
+pub struct Request {
     /// Which command.
     pub kind: Kind,
     /// The root of a model, whose letters are folded.
     pub root: Root,
     /// The name of a fact of it, folded, or that of the code of a refusal.
     pub target: Name,
-    /// The size of a model that is made, from 1 to 512, or a byte of a text.
+    /// The size of a model that is made, from 1 to 512, a byte of a text, or how many of the files are the older ones.
     pub number: u32,
     /// The command on which help is asked for.
     pub of: Option<Kind>,
-    /// The names of the files: one at least where there is a root, and that of a derivation, or of requirements, before them; one where a file is read alone.
-    pub files: &'a [Word],
+    /// The names of the files: one at least where there is a root, and that of a derivation, or of requirements, before them; the older and then the newer ones where a command compares; one where a file is read alone.
+    pub files: List<Word>,
     /// What the options say.
     pub options: Options,
 }
@@ -92,7 +92,7 @@ pub struct Paging {
     pub max_order: Option<u32>,
 }
 
-impl<'a> Request<'a> {
+impl Request {
     /// The request that the words give, where the reports have these names.
     ///
     /// The plain words come first: the name of the command, and then those of its shape. The options follow, each at most once: a flag as
@@ -102,11 +102,7 @@ impl<'a> Request<'a> {
     /// with `--help` is `help` with that name.
     ///
     /// `Usage` where the words give no request; `Memory` where memory was wanting, or there are more reports than 32 bits count.
-    pub fn read(
-        alloc: Global,
-        words: &'a [Word],
-        reports: &[Name],
-    ) -> Result<Request<'a>, WordsFault>
+    pub fn read(alloc: Global, words: &[Word], reports: &[Name]) -> Result<Request, WordsFault>
         ensures request { IfOk result (λ request. IsRequest reports.now words.now (request_shown request)) }
         ensures none { IfErr result (TellsUsage reports.now words.now) }
     {
@@ -118,7 +114,7 @@ impl<'a> Request<'a> {
 }
 
 /// The request that the words give, if they give one.
-fn request_in<'a>(alloc: Global, words: &'a [Word], reports: &[Name]) -> Mem<Option<Request<'a>>>
+fn request_in(alloc: Global, words: &[Word], reports: &[Name]) -> Mem<Option<Request>>
     ensures { IfOk result (Answers reports.now words.now) }
 {
     match short_form(words) {
@@ -128,11 +124,7 @@ fn request_in<'a>(alloc: Global, words: &'a [Word], reports: &[Name]) -> Mem<Opt
 }
 
 /// The request that words in full give, if they give one.
-fn request_in_full<'a>(
-    alloc: Global,
-    words: &'a [Word],
-    reports: &[Name],
-) -> Mem<Option<Request<'a>>>
+fn request_in_full(alloc: Global, words: &[Word], reports: &[Name]) -> Mem<Option<Request>>
     ensures { IfOk result (AnswersInFull reports.now words.now) }
 {
     let plain = before_options(words);
@@ -149,13 +141,13 @@ fn request_in_full<'a>(
 }
 
 /// The request of the plain words behind the name of a command, and of the words behind them.
-fn request_of<'a>(
+fn request_of(
     alloc: Global,
     kind: Kind,
-    plain: &'a [Word],
+    plain: &[Word],
     behind: &[Word],
     reports: &[Name],
-) -> Mem<Option<Request<'a>>>
+) -> Mem<Option<Request>>
     ensures { IfOk result (ReadsAs reports.now kind plain.now behind.now) }
 {
     if !are_options(kind, behind) || !are_complete(kind, behind) || !are_fit(kind, behind) {

@@ -19,13 +19,14 @@ pub enum Kind {
     Refusals,
     Probability,
     Require,
+    Compare,
     Explain,
     Help,
     Version,
 }
 
 /// All commands, in order.
-pub const KINDS: [Kind; 21] = [
+pub const KINDS: [Kind; 22] = [
     Kind::Check,
     Kind::Cuts,
     Kind::Tree,
@@ -44,6 +45,7 @@ pub const KINDS: [Kind; 21] = [
     Kind::Refusals,
     Kind::Probability,
     Kind::Require,
+    Kind::Compare,
     Kind::Explain,
     Kind::Help,
     Kind::Version,
@@ -60,6 +62,8 @@ pub enum Shape {
     Derivation,
     /// `ROOT REQUIREMENTS FILE..`
     Requirements,
+    /// `ROOT TARGET FILE.. to FILE..`
+    Compared,
     /// `N`, from 1 to 512
     Number,
     /// `FILE`

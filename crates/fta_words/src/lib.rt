@@ -24,7 +24,7 @@ mod text;
 pub use command::{Form, Options, Paging, Request};
 pub use error::WordsFault;
 pub use explained::explained_call;
-pub use files::{file_words, is_option};
+pub use files::{FileWords, file_words, is_option};
 pub use kind::{KINDS, Kind, Shape};
 pub use table::{
     CODES, Names, about_of, are_named, flags_of, is_among, kind_named, name_of, optional_of,

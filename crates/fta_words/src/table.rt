@@ -86,7 +86,7 @@ pub const CODES: [&'static [u8]; 66] = [
 ];
 
 /// A row for each command, in the order of `KINDS`, which is that of help.
-pub const ROWS: [CommandRow; 21] = [
+pub const ROWS: [CommandRow; 22] = [
     Row {
         kind: Kind::Check,
         name: b"check",
@@ -284,6 +284,17 @@ pub const ROWS: [CommandRow; 21] = [
         usage: b"require ROOT REQUIREMENTS FILE..",
         optional: b" [--tap] [--profile 1|2]",
         about: b"whether a model meets requirements, each by a line; status 8 where one is not met",
+    },
+    Row {
+        kind: Kind::Compare,
+        name: b"compare",
+        shape: Shape::Compared,
+        flags: &[],
+        valued: &[b"max-order", b"profile"],
+        required: &[],
+        usage: b"compare ROOT TARGET FILE.. to FILE..",
+        optional: b" [--max-order N] [--profile 1|2]",
+        about: b"which minimal cut sets of a target are gone in newer files, and which are new",
     },
     Row {
         kind: Kind::Explain,

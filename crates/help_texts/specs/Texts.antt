@@ -6,7 +6,7 @@ use Rattle.fta_words.specs.Table.{about_of, all_codes, optional_of, usage_of}
 use Rattle.fta_words.specs.declared.kind.TheConstants.{KINDS}
 use Rattle.fta_words.specs.declared.kind.Kind.{Kind}
 use Rattle.fta_words.specs.declared.kind.Kind.TheVariants as kind
-use Rattle.help_texts.specs.declared.commands.TheConstants.{CHECK, CUTS, TREE, FMEA, REPORT, MAKE, GALILEO, PATHS, WHY, CONFIRM, TARGETS, EVENTS, REVIEW, PLACE, MANIFEST, REFUSALS, PROBABILITY, REQUIRE, EXPLAIN, HELP, VERSION, PROGRAM, STATUSES, VERSIONS}
+use Rattle.help_texts.specs.declared.commands.TheConstants.{CHECK, CUTS, TREE, FMEA, REPORT, MAKE, GALILEO, PATHS, WHY, CONFIRM, TARGETS, EVENTS, REVIEW, PLACE, MANIFEST, REFUSALS, PROBABILITY, REQUIRE, COMPARE, EXPLAIN, HELP, VERSION, PROGRAM, STATUSES, VERSIONS}
 use Rattle.help_texts.specs.declared.explanations.TheConstants.{EXPLANATIONS}
 
 -- what a command writes, its options, and an example
@@ -29,6 +29,7 @@ lines_of kind.Manifest = MANIFEST.now
 lines_of kind.Refusals = REFUSALS.now
 lines_of kind.Probability = PROBABILITY.now
 lines_of kind.Require = REQUIRE.now
+lines_of kind.Compare = COMPARE.now
 lines_of kind.Explain = EXPLAIN.now
 lines_of kind.Help = HELP.now
 lines_of kind.Version = VERSION.now

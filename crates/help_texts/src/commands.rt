@@ -106,7 +106,7 @@ pub const WHY: &[u8] =
     b"Writes, step by step, why a target holds under a set of events. A step is its number, a fact, the events\n\
     and the earlier steps from which it follows.\n\
     \n\
-    --set TOKEN    the set, as in a line of cuts: root.a/e+root.b/e, or none\n\
+    --set TOKEN    the set, as in a line of cuts: root.a/e+root.b/e, or none; with --profile 2 in any order\n\
     --profile 1|2  the first, or the second, which also reads recovery, noerror, orless and more bindings\n\
     \n\
     Example, in the folder of the repository:\n\
@@ -117,7 +117,7 @@ pub const CONFIRM: &[u8] =
     b"Writes accepted and the number of steps where the first file has a derivation that shows that a target\n\
     holds under a set of events, whoever wrote it. The other files are those of the model.\n\
     \n\
-    --set TOKEN    the set, as in a line of cuts: root.a/e+root.b/e, or none\n\
+    --set TOKEN    the set, as in a line of cuts: root.a/e+root.b/e, or none; with --profile 2 in any order\n\
     --profile 1|2  the first, or the second, which also reads recovery, noerror, orless and more bindings\n\
     \n\
     Example, in the folder of the repository:\n\
@@ -230,6 +230,22 @@ pub const REQUIRE: &[u8] =
     Example, in the folder of the repository:\n\
     ./aadl_fta require Acs::Control.dual examples/attitude_control.requirements examples/attitude_control.aadl\n";
 
+/// Of `compare`.
+pub const COMPARE: &[u8] =
+    b"Writes which minimal cut sets of a target are gone from the model in the files before the word to, and which\n\
+    are new in that in the files behind it. A set is the same where its events have the same names, in whatever\n\
+    order. A file that is called to is written ./to.\n\
+    \n\
+    gone 1 root.a/fail         a set that the older model alone has, with its order\n\
+    new 2 root.a/fail+root.b/x a set that the newer model alone has\n\
+    end gone 1 new 1           how many there are of each\n\
+    \n\
+    --max-order N  the sets of N events at most\n\
+    --profile 1|2  the first, or the second, which also reads recovery, noerror, orless and more bindings\n\
+    \n\
+    Example, in the folder of the repository:\n\
+    ./aadl_fta compare Acs::Control.dual 'root/out:torque{errors::serviceomission}' examples/attitude_control.aadl to examples/attitude_control_2.aadl\n";
+
 /// Of `explain`.
 pub const EXPLAIN: &[u8] =
     b"Writes what a refusal says, by its code, and what to write instead. The code is the first word behind the\n\
@@ -268,4 +284,4 @@ pub const PROGRAM: &[u8] = b"aadl_fta 0.1.0";
 pub const VERSIONS: &[u8] = b"aadl_fta 0.1.0\n\
     profile 1\n\
     profile 2\n\
-    formats: check 1 cuts 1 tree 1 mef 1 dot 1 fmea 1 report 1 make 1 galileo 1 paths 1 why 1 confirm 1 targets 1 events 1 review 4 place 1 manifest 2 refusals 1 probability 1 require 1\n";
+    formats: check 1 cuts 1 tree 1 mef 1 dot 1 fmea 1 report 1 make 1 galileo 1 paths 1 why 1 confirm 1 targets 1 events 1 review 4 place 1 manifest 2 refusals 1 probability 1 require 1 compare 1\n";

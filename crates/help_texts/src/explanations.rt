@@ -394,11 +394,12 @@ pub const EXPLANATIONS: [&'static [u8]; 66] = [
     Instead: declare the group by parts or events; it may stand anywhere in the file.\n",
     b"Q6 EmptyGroup\n\
     \n\
-    A member of a group of parts is no component at or below which the model has an event or a fact, or\n\
-    one of a group of events is no event.\n\
+    A member of a group of parts is no component at or below which the model has an error event, or one\n\
+    of a group of events is no event.\n\
     \n\
-    Instead: take a component, as root.cha.sw, or an event as events has it. A requirement on a group in\n\
-    which a word means nothing would be met for nothing.\n",
+    Instead: take a component, as root.cha.sw, or an event as events has it; leave out a part that has\n\
+    no event, also where it has states or points. A requirement on a group in which a word stands for no\n\
+    event would be met for nothing.\n",
     b"Q7 BadToken\n\
     \n\
     Behind except stands a text of no set of events, or behind without the name of no event.\n\

@@ -99,6 +99,7 @@ fn lines_of(kind: Kind) -> &'static [u8]
         Kind::Refusals => texts::REFUSALS,
         Kind::Probability => texts::PROBABILITY,
         Kind::Require => texts::REQUIRE,
+        Kind::Compare => texts::COMPARE,
         Kind::Explain => texts::EXPLAIN,
         Kind::Help => texts::HELP,
         Kind::Version => texts::VERSION,

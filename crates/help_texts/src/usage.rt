@@ -2,6 +2,7 @@
 
 ghost use Rattle.std.specs.Prelude.{◌≡◌, ◌++◌, [], None, Some, IfOk, OnOk, codes, map};
 ghost use Rattle.std.specs.List.{flat_map};
+ghost use Rattle.near_names.specs.inner.Near.{near_text};
 ghost use Rattle.fta_words.specs.Table.{name_of, optional_of, usage_of};
 ghost use Rattle.help_texts.specs.inner.Usage.{before_sign, behind_dash, call_text, name_in, option_text, options_of, usage_text};
 
@@ -32,10 +33,17 @@ pub fn push_usage(alloc: Global, text: &mut Vec<u8>, words: &[Word]) -> Mem<()>
 fn push_no_command(alloc: Global, text: &mut Vec<u8>, name: &[u8]) -> Mem<()>
     ensures { OnOk result (text.new.items ≡ text.old.items ++ call_text None name.now []) }
 {
+    push_none_of(alloc, text, name, &KINDS)
+}
+
+/// Adds that a word is none of these commands, and the nearest ones.
+fn push_none_of(alloc: Global, text: &mut Vec<u8>, name: &[u8], kinds: &[Kind]) -> Mem<()>
+    ensures { OnOk result (text.new.items ≡ text.old.items ++ (codes "no command " ++ (name.now ++ (codes "\n" ++ near_text [] name.now (map name_of kinds.now))))) }
+{
     text.extend_from_slice(b"no command ")?;
     text.extend_from_slice(name)?;
     text.push(b'\n')?;
-    let names = names_of(alloc, &KINDS)?;
+    let names = names_of(alloc, kinds)?;
     push_near(alloc, text, b"", name, names.as_slice())
 }
 

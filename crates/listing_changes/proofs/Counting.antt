@@ -6,7 +6,7 @@ use Rattle.zdd_store.specs.inner.Store.{Families, family_of}
 use Rattle.cutset_lister.specs.SetText.{set_text}
 use Rattle.cutset_lister.specs.inner.Lending.{GaveNext}
 use Rattle.cutset_lister.specs.inner.Walks.{Walk, sets_left}
-use Rattle.listing_changes.specs.inner.Changes.{change_line, change_lines, is_matched, unmatched}
+use Rattle.listing_changes.specs.Changes.{change_line, change_lines, is_matched, unmatched}
 use Rattle.listing_changes.specs.inner.Telling.{TellsUpTo, lacking, lines_of}
 use Rattle.listing_changes.specs.declared.comparison.Comparison.{Comparison}
 use Rattle.listing_changes.specs.declared.telling.Told.{Told}

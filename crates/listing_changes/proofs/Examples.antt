@@ -3,7 +3,7 @@ use Rattle.std.proofs.Common.{◌≡◌, ℕ, List, [], ◌∷◌, true, false, 
 use Rattle.std.specs.Fmt.{digits}
 use Rattle.fault_system.specs.Systems.{System}
 use Rattle.fault_system.specs.declared.formula.EventInfo.{EventInfo}
-use Rattle.listing_changes.specs.inner.Changes.{change_lines, changes_text, have_same_names, is_matched, unmatched}
+use Rattle.listing_changes.specs.Changes.{change_lines, changes_text, have_same_names, is_matched, unmatched}
 
 abbrev an_event : List ℕ → EventInfo
 an_event name = record { name = name; owner = 0; key = [] }

@@ -4,5 +4,5 @@ mod Matching
 mod Ascending
 mod Placing
 mod Counting
-mod Texts
+pub mod Texts
 mod Sided

@@ -12,7 +12,7 @@ use Rattle.fault_system.specs.Systems.{System, IsSystem, event_name}
 use Rattle.fault_system.specs.CutSets.{IsEventSet}
 use Rattle.fault_system.proofs.Elements.{In, In-contains, contains_In, In-map, In-mapped}
 use Rattle.fault_system.proofs.NumberSets.{RisesWithin-at, contained-in_set, same_rising, set_of-contained}
-use Rattle.listing_changes.specs.inner.Changes.{are_among, have_same_names, is_matched, names_of}
+use Rattle.listing_changes.specs.Changes.{are_among, have_same_names, is_matched, names_of}
 use Rattle.listing_changes.specs.inner.Numbers.{AreNumbers, LacksNumber, number_of, numbers_there}
 use Rattle.listing_changes.proofs.Names.{no-name, one-event, same-name}
 

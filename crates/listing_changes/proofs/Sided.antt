@@ -9,7 +9,7 @@ use Rattle.zdd_store.specs.inner.Family.{Family}
 use Rattle.zdd_store.specs.inner.Store.{Families, IsIn, family_of}
 use Rattle.cutset_engine.specs.inner.Families.{HasMinimalCutSets}
 use Rattle.cutset_lister.specs.inner.Walks.{IsStarted, all_sets, sets_left}
-use Rattle.listing_changes.specs.inner.Changes.{TellsChanges, change_lines, end_line, unmatched}
+use Rattle.listing_changes.specs.Changes.{TellsChanges, change_lines, end_line, unmatched}
 use Rattle.listing_changes.specs.inner.Sides.{AreCuts, CanBeAsked, CanBeTold}
 use Rattle.listing_changes.specs.declared.cuts.Cuts.{Cuts}
 use Rattle.listing_changes.proofs.Texts.{event-sets, family-sets, tells-changes}

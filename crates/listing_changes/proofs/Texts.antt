@@ -8,7 +8,8 @@ use Rattle.fault_system.specs.Listings.{IsListing}
 use Rattle.fault_system.proofs.Elements.{In-contains, In-filter, In-filtered, contains_In, each-made}
 use Rattle.fault_system.proofs.Orders.{one_order}
 use Rattle.zdd_store.specs.inner.Family.{HaveSameSets}
-use Rattle.listing_changes.specs.inner.Changes.{HasNoEqual, TellsChanges, change_lines, changes_text, end_line, is_matched, unmatched}
+use Rattle.listing_changes.specs.inner.Unequal.{HasNoEqual}
+use Rattle.listing_changes.specs.Changes.{TellsChanges, change_lines, changes_text, end_line, is_matched, unmatched}
 use Rattle.listing_changes.proofs.Matching.{equal-names, matched-equal, matched-same}
 
 -- filters by tests that agree keep the same

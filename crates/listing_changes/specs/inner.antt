@@ -1,5 +1,5 @@
-pub mod Changes
 pub mod Numbers
 pub mod Comparing
 pub mod Telling
 pub mod Sides
+pub mod Unequal

@@ -3,7 +3,7 @@
 ghost use Rattle.std.specs.Prelude.{◌≡◌, ◌+◌, ◌++◌, ◌≤◌, IfOk, OnOk, length};
 ghost use Rattle.zdd_store.specs.inner.Store.{family_of};
 ghost use Rattle.cutset_lister.specs.inner.Walks.{sets_left};
-ghost use Rattle.listing_changes.specs.inner.Changes.{TellsChanges, change_lines, unmatched};
+ghost use Rattle.listing_changes.specs.Changes.{TellsChanges, change_lines, unmatched};
 ghost use Rattle.listing_changes.specs.inner.Sides.{CanBeAsked, CanBeTold, IsSide};
 
 use crate::comparison::Comparison;

@@ -3,7 +3,7 @@
 ghost use Rattle.std.specs.Prelude.{◌≡◌, IfOk};
 ghost use Rattle.fault_system.specs.CutSets.{IsEventSet};
 ghost use Rattle.zdd_store.specs.inner.Store.{family_of};
-ghost use Rattle.listing_changes.specs.inner.Changes.{is_matched};
+ghost use Rattle.listing_changes.specs.Changes.{is_matched};
 ghost use Rattle.listing_changes.specs.inner.Comparing.{IsComparison};
 
 use crate::containing::has_set;

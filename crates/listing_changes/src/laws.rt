@@ -3,7 +3,8 @@
 ghost use Rattle.std.specs.Prelude.{◌≡◌, ◌↔◌, ℕ, List, Option, Contains};
 ghost use Rattle.fault_system.specs.Systems.{System};
 ghost use Rattle.fault_system.specs.Listings.{IsListing};
-ghost use Rattle.listing_changes.specs.inner.Changes.{HasNoEqual, TellsChanges, unmatched};
+ghost use Rattle.listing_changes.specs.Changes.{TellsChanges, unmatched};
+ghost use Rattle.listing_changes.specs.inner.Unequal.{HasNoEqual};
 
 /// One text tells what changed.
 pub fn one_text()

@@ -2,7 +2,7 @@
 
 ghost use Rattle.std.specs.Prelude.{◌≡◌, ◌++◌, ◌∷◌, OnOk, decimal};
 ghost use Rattle.cutset_lister.specs.SetText.{set_text};
-ghost use Rattle.listing_changes.specs.inner.Changes.{change_line, end_line};
+ghost use Rattle.listing_changes.specs.Changes.{change_line, end_line};
 
 use cutset_lister::write_token;
 use fault_system::FaultSystem;

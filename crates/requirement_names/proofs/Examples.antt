@@ -22,10 +22,10 @@ event name = record { name = name; owner = 0; key = [] }
 abbrev fact : List ℕ → FactInfo
 fact name = record { name = name; owner = 0; formula = True }
 
--- one fact and three events
+-- two facts and three events
 abbrev sample : System
 sample = record {
-  facts = fact (codes "root/out:t") ∷ [];
+  facts = fact (codes "root/out:t") ∷ fact (codes "root.n/state:ok") ∷ [];
   events = event (codes "root.a.sw/f") ∷ event (codes "root.b/f") ∷ event (codes "root.a/g") ∷ [];
 }
 
@@ -50,6 +50,10 @@ four = refl
 -- a component that the model does not have
 no_component : wrong_of (requirements_of (codes "parts g root.c\nR root/out:t never")) ≡ Some (record { mistake = EmptyGroup; at = 8 })
 no_component = refl
+
+-- a component that has a fact and no event
+no_event_below : wrong_of (requirements_of (codes "parts g root.n\nR root/out:t never")) ≡ Some (record { mistake = EmptyGroup; at = 8 })
+no_event_below = refl
 
 -- the front of a name is no component
 no_front : wrong_of (requirements_of (codes "parts g root.a.s\nR root/out:t never")) ≡ Some (record { mistake = EmptyGroup; at = 8 })

@@ -1,5 +1,5 @@
 -- The events of a group.
-use Rattle.std.specs.Prelude.{ℕ, Bool, ◌||◌, List, [], map, filter, length, is_some, unwrap_or, slice_get}
+use Rattle.std.specs.Prelude.{ℕ, Bool, List, [], map, filter, length, is_some, unwrap_or, slice_get}
 use Rattle.std.specs.List.{list_any}
 use Rattle.std.specs.Option.{option_and_then}
 use Rattle.plain_values.specs.Name.{is_same_text}
@@ -23,9 +23,9 @@ is_in_group system kind members number = list_any (λ member. belongs_to kind me
 abbrev pub group_events : System → Group → List ℕ
 group_events system group = filter (is_in_group system group.kind (map (called (λ word. word)) group.members)) (numbers_below (length system.events))
 
--- Whether a member of a group is one of the model's: a component has an event or a fact below it, and an event is one.
+-- Whether a member of a group is one of the model's: a component has an error event in it or below it, and an event is one.
 abbrev pub is_of_model : System → GroupKind → List ℕ → Bool
-is_of_model system Parts member = list_any (λ event. is_below member event.name) system.events || list_any (λ fact. is_below member fact.name) system.facts
+is_of_model system Parts member = list_any (λ event. is_below member event.name) system.events
 is_of_model system Events member = is_some (event_named system member)
 
 -- the names of groups as they are compared

@@ -32,7 +32,7 @@ abbrev pub again_behind : {Item : Type 0} → (Item → PlacedWord) → List (Li
 again_behind word_of earlier [] = []
 again_behind word_of earlier (item ∷ items) = wrong_again earlier (word_of item) ++ again_behind word_of (earlier ++ called word_of item ∷ []) items
 
--- a member of a group that is none of the model's
+-- a member of a group that has no event
 abbrev pub wrong_member : System → GroupKind → PlacedWord → List WrongWord
 wrong_member system kind member = wrong_if (not (is_of_model system kind (folded member.text))) EmptyGroup member
 
@@ -70,7 +70,7 @@ abbrev pub wrong_words : System → List (List ℕ) → Requirement → List Wro
 wrong_words system groups requirement = wrong_target system requirement.target ++ wrong_in system groups requirement.sentence
 
 -- All words of groups and requirements that are wrong: names of groups and of requirements that stand a second time, members of groups
--- that are none of the model's, and what requirements name and is not there.
+-- that have no event, and what requirements name and is not there.
 abbrev pub wrong_of : System → List Group → List Requirement → List WrongWord
 wrong_of system groups requirements =
     again_behind (λ group. group.name) [] groups

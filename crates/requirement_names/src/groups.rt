@@ -9,7 +9,7 @@ ghost use Rattle.requirement_names.specs.Groups.{belongs_to, group_events, is_in
 
 use crate::model::{ModelNames, is_below};
 use crate::names::folded_names;
-use fault_system::{EventInfo, FactInfo, FaultSystem};
+use fault_system::{EventInfo, FaultSystem};
 use plain_values::{List, Mem, Name, is_same};
 use requirements::{Group, GroupKind};
 use std::alloc::Global;
@@ -73,7 +73,7 @@ fn belongs_to(kind: GroupKind, member: &[u8], name: &[u8]) -> bool
     }
 }
 
-/// Whether a member of a group is one of the model's.
+/// Whether a member of a group has an event of the model.
 pub(crate) fn is_of_model(model: &ModelNames<'_>, kind: GroupKind, member: &[u8]) -> bool
     ensures { result ≡ is_of_model model.now kind member.now }
 {
@@ -83,23 +83,18 @@ pub(crate) fn is_of_model(model: &ModelNames<'_>, kind: GroupKind, member: &[u8]
     }
 }
 
-/// Whether an event or a fact lies below a component.
+/// Whether an event lies below a component.
 fn has_below(system: &FaultSystem, member: &[u8]) -> bool
     ensures { result ≡ is_of_model system.now Parts member.now }
 {
-    is_event_below(system.event_infos(), member) || is_fact_below(system.fact_infos(), member)
+    is_event_below(system.event_infos(), member)
 }
 
+/// The same, of one of these events.
 fn is_event_below(events: &[EventInfo], member: &[u8]) -> bool
     ensures { result ≡ list_any (λ event. is_below member.now event.name) events.now }
 {
     events
         .iter()
         .any(|event| is_below(member, event.name.items()))
-}
-
-fn is_fact_below(facts: &[FactInfo], member: &[u8]) -> bool
-    ensures { result ≡ list_any (λ fact. is_below member.now fact.name) facts.now }
-{
-    facts.iter().any(|fact| is_below(member, fact.name.items()))
 }

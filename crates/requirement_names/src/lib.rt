@@ -15,5 +15,7 @@ mod wrong;
 
 pub use laws::{first_is_first, named_fit};
 pub use mistake::{Mistake, NameFault, WrongWord};
+pub use model::ModelNames;
 pub use named::{NamedRequirement, NamedSentence, SetSentence};
 pub use resolving::resolved;
+pub use sets::set_named;

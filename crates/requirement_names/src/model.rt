@@ -11,7 +11,7 @@ use std::marker::Model;
 
 /// A system with tables of its names. Contracts see the system.
 #[derive(Drop)]
-pub(crate) struct ModelNames<'a> {
+pub struct ModelNames<'a> {
     system: &'a FaultSystem,
     facts: Names<'a>,
     events: Names<'a>,
@@ -35,7 +35,7 @@ impl<'a> Model for ModelNames<'a> {
 
 impl<'a> ModelNames<'a> {
     /// The names of a system.
-    pub(crate) fn of(alloc: Global, system: &'a FaultSystem) -> Mem<ModelNames<'a>>
+    pub fn of(alloc: Global, system: &'a FaultSystem) -> Mem<ModelNames<'a>>
         ensures { IfOk result (λ model. model ≡ system.now) }
     {
         let facts = names_of_facts(alloc, system)?;

@@ -28,7 +28,7 @@ use std::alloc::Global;
 /// events of groups, exceptions and single events.
 ///
 /// It is refused with the first word, by its place, that is wrong: a name of a group or of a requirement that one before it has, a member of
-/// a group that is none of the model's, a target, a group, an event or a set that is not there. Where no word is wrong and there is no
+/// a group that has no event of the model, a target, a group, an event or a set that is not there. Where no word is wrong and there is no
 /// requirement, it is refused with that. Names are compared with letters in lower case.
 pub fn resolved(
     alloc: Global,

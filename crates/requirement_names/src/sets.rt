@@ -9,11 +9,7 @@ use plain_values::{List, Mem, Name, copied, is_same};
 use std::alloc::Global;
 
 /// The set of events that a text names; none where a part of it is no name of an event.
-pub(crate) fn set_named(
-    alloc: Global,
-    model: &ModelNames<'_>,
-    text: &[u8],
-) -> Mem<Option<List<u32>>>
+pub fn set_named(alloc: Global, model: &ModelNames<'_>, text: &[u8]) -> Mem<Option<List<u32>>>
     ensures { IfOk result (λ set. set ≡ set_named model.now text.now) }
 {
     if is_same(text, b"none") {

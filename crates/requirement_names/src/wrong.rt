@@ -17,7 +17,7 @@ use plain_values::{Mem, fold};
 use requirements::{Group, GroupKind, PlacedWord, Requirement, Sentence};
 use std::alloc::Global;
 
-/// Notes the members of groups that are none of the model's.
+/// Notes the members of groups that have no event of the model.
 pub(crate) fn note_groups(
     alloc: Global,
     model: &ModelNames<'_>,
@@ -32,7 +32,7 @@ pub(crate) fn note_groups(
     Ok(())
 }
 
-/// Notes the members of a group that are none of the model's.
+/// Notes the members of a group that have no event of the model.
 fn note_members(
     alloc: Global,
     model: &ModelNames<'_>,

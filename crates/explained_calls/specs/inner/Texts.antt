@@ -62,10 +62,17 @@ place_in call options files texts code (At file at) = place_text (file_word file
 
 -- ---- the nearest names
 
--- the texts of the model, among those of the files: `confirm` has a derivation before them
-abbrev pub model_texts : Kind → List (List ℕ) → List (List ℕ)
-model_texts kind.Confirm texts = drop 1 texts
-model_texts _ texts = texts
+-- the texts of the model, among those of the files: `confirm` has a derivation before them, `require` has requirements, and `compare` has
+-- so many files of the older model before those of the newer one
+abbrev pub texts_of_model : Kind → ℕ → List (List ℕ) → List (List ℕ)
+texts_of_model kind.Confirm count texts = drop 1 texts
+texts_of_model kind.Require count texts = drop 1 texts
+texts_of_model kind.Compare count texts = take count texts
+texts_of_model _ count texts = texts
+
+-- the same of a request
+abbrev pub model_texts : Request → List (List ℕ) → List (List ℕ)
+model_texts asked texts = texts_of_model asked.kind asked.number texts
 
 -- the name of a package before that of a classifier, if it is asked for
 abbrev pub package_before : Bool → PackageUnit → List ℕ
@@ -140,8 +147,8 @@ near_classifiers name files = near_others name (names_in (is_packaged name) file
 
 -- the texts in which a classifier of a name is looked for that stands in the file of a number: all of the model where it has a package
 -- before it, and else that file
-abbrev pub texts_for : Kind → List (List ℕ) → ℕ → List ℕ → List (List ℕ)
-texts_for kind texts file name = if is_packaged name then model_texts kind texts else take 1 (drop file texts)
+abbrev pub texts_for : Request → List (List ℕ) → ℕ → List ℕ → List (List ℕ)
+texts_for asked texts file name = if is_packaged name then model_texts asked texts else take 1 (drop file texts)
 
 -- ---- what is told of them
 
@@ -151,23 +158,23 @@ IsToldOf {A} phase tell text = ((value : A) × Passes phase value × (text ≡ t
 
 -- The text has the names that are nearest to the word that a refusal of this code is about.
 abbrev pub IsNearOf : List (List ℕ) → Request → List (List ℕ) → Code → List ℕ → Type 0
-IsNearOf call asked texts UnknownPackage near = IsToldOf (units_read (model_texts asked.kind texts)) (near_roots call) near
-IsNearOf call asked texts UnknownClassifier near = IsToldOf (units_read (model_texts asked.kind texts)) (near_roots call) near
-IsNearOf call asked texts UnknownTarget near = IsToldOf (model_read (profile_of asked.options.form) asked.root (model_texts asked.kind texts)) (near_facts asked.target) near
-IsNearOf call asked texts BadToken near = IsToldOf (model_read (profile_of asked.options.form) asked.root (model_texts asked.kind texts)) (near_events (token_of asked.options)) near
+IsNearOf call asked texts UnknownPackage near = IsToldOf (units_read (model_texts asked texts)) (near_roots call) near
+IsNearOf call asked texts UnknownClassifier near = IsToldOf (units_read (model_texts asked texts)) (near_roots call) near
+IsNearOf call asked texts UnknownTarget near = IsToldOf (model_read (profile_of asked.options.form) asked.root (model_texts asked texts)) (near_facts asked.target) near
+IsNearOf call asked texts BadToken near = IsToldOf (model_read (profile_of asked.options.form) asked.root (model_texts asked texts)) (near_events (token_of asked.options)) near
 IsNearOf call asked texts _ near = near ≡ []
 
 -- The same of a refusal at a byte of a file, where this name stands.
-abbrev pub IsNearAt : Kind → List (List ℕ) → Code → ℕ → List ℕ → List ℕ → Type 0
-IsNearAt kind texts UnknownPackage file name near = IsToldOf (units_read (model_texts kind texts)) (near_packages name) near
-IsNearAt kind texts UnknownClassifier file name near = IsToldOf (units_read (texts_for kind texts file name)) (near_classifiers name) near
-IsNearAt kind texts _ file name near = near ≡ []
+abbrev pub IsNearAt : Request → List (List ℕ) → Code → ℕ → List ℕ → List ℕ → Type 0
+IsNearAt asked texts UnknownPackage file name near = IsToldOf (units_read (model_texts asked texts)) (near_packages name) near
+IsNearAt asked texts UnknownClassifier file name near = IsToldOf (units_read (texts_for asked texts file name)) (near_classifiers name) near
+IsNearAt asked texts _ file name near = near ≡ []
 
 -- The same of a refusal of a place.
 abbrev pub IsNear : List (List ℕ) → Request → List (List ℕ) → Code → Place → List ℕ → Type 0
 IsNear call asked texts code Words near = IsNearOf call asked texts code near
 IsNear call asked texts code (Whole file) near = near ≡ []
-IsNear call asked texts code (At file at) near = IsNearAt asked.kind texts code file (name_at (get_or texts file []) at) near
+IsNear call asked texts code (At file at) near = IsNearAt asked texts code file (name_at (get_or texts file []) at) near
 
 -- ---- the text
 

@@ -68,6 +68,7 @@ room_of shape.Model = None
 room_of shape.Target = None
 room_of shape.Derivation = None
 room_of shape.Requirements = None
+room_of shape.Compared = None
 room_of shape.Number = Some 1
 room_of shape.File = Some 1
 room_of shape.Place = Some 2

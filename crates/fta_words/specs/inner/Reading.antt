@@ -47,7 +47,7 @@ abbrev pub AsksAs : Shape → List (List ℕ) → Option Asked → Type 0
 AsksAs shape words answer =
     MatchOption answer
     ((root : Root) (target : List ℕ) (number : ℕ) (of : Option Kind) (files : List (List ℕ)) → IsAsked shape words root target number of files → ⊥)
-    (λ asked. IsAsked shape words asked.root asked.target asked.number asked.of asked.files.now)
+    (λ asked. IsAsked shape words asked.root asked.target asked.number asked.of asked.files)
 
 -- The words are the plain words behind the name of a command and then its options, and this is the request.
 pub record IsRead (reports : List (List ℕ)) (kind : Kind) (plain behind : List (List ℕ)) (request : Request) : Type 0 where

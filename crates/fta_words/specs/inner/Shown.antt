@@ -11,6 +11,6 @@ request_shown request =
       target = request.target;
       number = request.number;
       of = request.of;
-      files = request.files.now;
+      files = request.files;
       options = request.options;
     }

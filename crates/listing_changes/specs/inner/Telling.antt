@@ -1,7 +1,7 @@
 -- How far the sets of a listing were told.
 use Rattle.std.specs.Prelude.{ℕ, ◌+◌, ◌≡◌, ◌≤◌, List, ◌++◌, length}
 use Rattle.zdd_store.specs.inner.Store.{family_of}
-use Rattle.listing_changes.specs.inner.Changes.{change_lines, unmatched}
+use Rattle.listing_changes.specs.Changes.{change_lines, unmatched}
 use Rattle.listing_changes.specs.declared.comparison.Comparison.{Comparison}
 use Rattle.listing_changes.specs.declared.telling.Told.{Told}
 

@@ -10,7 +10,7 @@ use Rattle.explained_calls.proofs.call.explain.Goals as goal
 
 pub returns-in-Ok-clause-told : goal.returns-in-Ok-clause-told
 returns-in-Ok-clause-told g c =
-    inr (c.in-Ok.read.names.now, c.in-Ok.read.texts, c.in-Ok.ensures.named, c.in-Ok.ensures.fronts, c.explain_read.ensures.told (g.F.Files.contents c.args.files.now) c.in-Ok.ensures.named c.in-Ok.ensures.fronts)
+    inr (c.in-Ok.read.names, c.in-Ok.read.texts, c.in-Ok.ensures.named, c.in-Ok.ensures.fronts, c.explain_read.ensures.told (g.F.Files.contents c.args.files.now) c.in-Ok.ensures.named c.in-Ok.ensures.fronts)
 
 pub returns-in-Err-clause-told : goal.returns-in-Err-clause-told
 returns-in-Err-clause-told g c = inl (c.in-Err.ensures.fault, refl)

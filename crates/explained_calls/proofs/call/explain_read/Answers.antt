@@ -15,7 +15,7 @@ returns-clause-told g c contents named fronts =
     record {
       its_end = c.run_held-its_end.result;
       ran = c.run_held-its_end.ensures.told contents named fronts;
-      took = subst (λ (its : List (List ℕ)). Took (ExplainsEnd its c.args.call.now c.args.read.now.names.now c.args.read.now.texts c.run_held-its_end.result) c.tell-status.result (g.S.Sink.seen c.args.out.now) (g.S.Sink.seen c.tell-status.new.out)) names c.tell-status.ensures.took;
+      took = subst (λ (its : List (List ℕ)). Took (ExplainsEnd its c.args.call.now c.args.read.now.names c.args.read.now.texts c.run_held-its_end.result) c.tell-status.result (g.S.Sink.seen c.args.out.now) (g.S.Sink.seen c.tell-status.new.out)) names c.tell-status.ensures.took;
       ends = c.tell-status.ensures.ends;
     }
 

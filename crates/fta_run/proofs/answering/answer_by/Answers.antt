@@ -1,7 +1,10 @@
-use Rattle.std.proofs.Common.{inl, inr, refl}
+use Rattle.std.proofs.Common.{List, ℕ, inl, inr, refl, subst}
+use Rattle.phases.specs.inner.Meets.{IsMemory, MeetsBut}
 use Rattle.system_answers.specs.Voices.{voices_of}
 use Rattle.system_answers.proofs.Reported.{all_kept}
-use Rattle.fta_run.specs.Due.{cuts_in, first_text, fmea_in, make_text, probability_in, sets_of_tree, targets_in}
+use Rattle.fta_run.specs.Due.{cuts_in, events_in, first_text, fmea_in, galileo_in, make_text, manifest_in, place_in, probability_in, refusals_in, sets_of_tree, targets_in, tree_in}
+use Rattle.fta_run.specs.Forms.{is_drawn}
+use Rattle.fta_run.specs.inner.Ready.{held_text, ready_text}
 use Rattle.fta_run.proofs.Ran.{held_is, meets_set, meets_wider, ready_held, ready_set, ready_told, told_as}
 use Rattle.fta_run.proofs.answering.answer_by.Goals as goal
 
@@ -37,7 +40,10 @@ pub returns-in-Make-clause-reports : goal.returns-in-Make-clause-reports
 returns-in-Make-clause-reports g c = all_kept (λ b. (goal.Report-dyn g (b.vtable, b.value)).text b.value) (λ b. (goal.Report-dyn g (b.vtable, b.value)).label b.value) (λ b. (goal.Report-dyn g (b.vtable, b.value)).report_faults b.value) _ c.args.reports.now.items
 
 pub returns-in-Galileo-clause-text : goal.returns-in-Galileo-clause-text
-returns-in-Galileo-clause-text g c = rw c.in-Galileo.is (meets_wider _ _ _ _ c.galileo.result (λ s memory. inl memory) c.galileo.ensures.text)
+returns-in-Galileo-clause-text g c =
+    let options = c.args.asked.now.options in
+    let its = subst (λ (names : List (List ℕ)). MeetsBut IsMemory ready_text (galileo_in (is_drawn options.form) options names c.args.texts) c.galileo.result) c.items-names.ensures.items c.galileo.ensures.text in
+    rw c.in-Galileo.is (meets_wider _ _ _ _ c.galileo.result (λ s memory. inl memory) its)
 
 pub returns-in-Galileo-clause-reports : goal.returns-in-Galileo-clause-reports
 returns-in-Galileo-clause-reports g c = all_kept (λ b. (goal.Report-dyn g (b.vtable, b.value)).text b.value) (λ b. (goal.Report-dyn g (b.vtable, b.value)).label b.value) (λ b. (goal.Report-dyn g (b.vtable, b.value)).report_faults b.value) _ c.args.reports.now.items
@@ -81,7 +87,10 @@ pub returns-in-Targets-clause-reports : goal.returns-in-Targets-clause-reports
 returns-in-Targets-clause-reports g c = all_kept (λ b. (goal.Report-dyn g (b.vtable, b.value)).text b.value) (λ b. (goal.Report-dyn g (b.vtable, b.value)).label b.value) (λ b. (goal.Report-dyn g (b.vtable, b.value)).report_faults b.value) _ c.args.reports.now.items
 
 pub returns-in-Events-clause-text : goal.returns-in-Events-clause-text
-returns-in-Events-clause-text g c = rw c.in-Events.is (ready_held _ _ c.events.result c.ready_of-in-Events.result c.ready_of-in-Events.ensures (λ s memory. inl memory) c.events.ensures)
+returns-in-Events-clause-text g c =
+    let asked = c.args.asked.now in
+    let its = subst (λ (names : List (List ℕ)). MeetsBut IsMemory held_text (events_in c.args.profile asked.root names c.args.texts) c.events.result) c.items-names.ensures.items c.events.ensures in
+    rw c.in-Events.is (ready_held _ _ c.events.result c.ready_of-in-Events.result c.ready_of-in-Events.ensures (λ s memory. inl memory) its)
 
 pub returns-in-Events-clause-by_lines : goal.returns-in-Events-clause-by_lines
 returns-in-Events-clause-by_lines g c = held_is _ c.events.result c.ready_of-in-Events.result c.ready_of-in-Events.ensures
@@ -99,7 +108,10 @@ pub returns-in-Review-clause-reports : goal.returns-in-Review-clause-reports
 returns-in-Review-clause-reports g c = all_kept (λ b. (goal.Report-dyn g (b.vtable, b.value)).text b.value) (λ b. (goal.Report-dyn g (b.vtable, b.value)).label b.value) (λ b. (goal.Report-dyn g (b.vtable, b.value)).report_faults b.value) _ c.args.reports.now.items
 
 pub returns-in-Manifest-clause-text : goal.returns-in-Manifest-clause-text
-returns-in-Manifest-clause-text g c = rw c.in-Manifest.is (ready_held _ _ c.manifest.result c.ready_of-in-Manifest.result c.ready_of-in-Manifest.ensures (λ s memory. inl memory) c.manifest.ensures)
+returns-in-Manifest-clause-text g c =
+    let asked = c.args.asked.now in
+    let its = subst (λ (names : List (List ℕ)). MeetsBut IsMemory held_text (manifest_in c.args.profile asked.root names c.args.texts) c.manifest.result) c.items-names.ensures.items c.manifest.ensures in
+    rw c.in-Manifest.is (ready_held _ _ c.manifest.result c.ready_of-in-Manifest.result c.ready_of-in-Manifest.ensures (λ s memory. inl memory) its)
 
 pub returns-in-Manifest-clause-by_lines : goal.returns-in-Manifest-clause-by_lines
 returns-in-Manifest-clause-by_lines g c = held_is _ c.manifest.result c.ready_of-in-Manifest.result c.ready_of-in-Manifest.ensures
@@ -108,7 +120,10 @@ pub returns-in-Manifest-clause-reports : goal.returns-in-Manifest-clause-reports
 returns-in-Manifest-clause-reports g c = all_kept (λ b. (goal.Report-dyn g (b.vtable, b.value)).text b.value) (λ b. (goal.Report-dyn g (b.vtable, b.value)).label b.value) (λ b. (goal.Report-dyn g (b.vtable, b.value)).report_faults b.value) _ c.args.reports.now.items
 
 pub returns-in-Refusals-clause-text : goal.returns-in-Refusals-clause-text
-returns-in-Refusals-clause-text g c = rw c.in-Refusals.is (ready_held _ _ c.refusals.result c.ready_of-in-Refusals.result c.ready_of-in-Refusals.ensures (λ s memory. inl memory) c.refusals.ensures)
+returns-in-Refusals-clause-text g c =
+    let asked = c.args.asked.now in
+    let its = subst (λ (names : List (List ℕ)). MeetsBut IsMemory held_text (refusals_in c.args.profile asked.root names c.args.texts) c.refusals.result) c.items-names.ensures.items c.refusals.ensures in
+    rw c.in-Refusals.is (ready_held _ _ c.refusals.result c.ready_of-in-Refusals.result c.ready_of-in-Refusals.ensures (λ s memory. inl memory) its)
 
 pub returns-in-Refusals-clause-by_lines : goal.returns-in-Refusals-clause-by_lines
 returns-in-Refusals-clause-by_lines g c = held_is _ c.refusals.result c.ready_of-in-Refusals.result c.ready_of-in-Refusals.ensures
@@ -128,7 +143,10 @@ pub returns-in-Probability-clause-reports : goal.returns-in-Probability-clause-r
 returns-in-Probability-clause-reports g c = all_kept (λ b. (goal.Report-dyn g (b.vtable, b.value)).text b.value) (λ b. (goal.Report-dyn g (b.vtable, b.value)).label b.value) (λ b. (goal.Report-dyn g (b.vtable, b.value)).report_faults b.value) _ c.args.reports.now.items
 
 pub returns-in-Place-clause-text : goal.returns-in-Place-clause-text
-returns-in-Place-clause-text g c = rw c.in-Place.is (ready_held _ _ c.place.result c.ready_of-in-Place.result c.ready_of-in-Place.ensures (λ s memory. inl memory) c.place.ensures)
+returns-in-Place-clause-text g c =
+    let asked = c.args.asked.now in
+    let its = subst (λ (names : List (List ℕ)). MeetsBut IsMemory held_text (place_in names asked.number c.args.texts) c.place.result) c.items-names.ensures.items c.place.ensures in
+    rw c.in-Place.is (ready_held _ _ c.place.result c.ready_of-in-Place.result c.ready_of-in-Place.ensures (λ s memory. inl memory) its)
 
 pub returns-in-Place-clause-by_lines : goal.returns-in-Place-clause-by_lines
 returns-in-Place-clause-by_lines g c = held_is _ c.place.result c.ready_of-in-Place.result c.ready_of-in-Place.ensures
@@ -146,7 +164,10 @@ pub returns-in-Help-clause-reports : goal.returns-in-Help-clause-reports
 returns-in-Help-clause-reports g c = all_kept (λ b. (goal.Report-dyn g (b.vtable, b.value)).text b.value) (λ b. (goal.Report-dyn g (b.vtable, b.value)).label b.value) (λ b. (goal.Report-dyn g (b.vtable, b.value)).report_faults b.value) _ c.args.reports.now.items
 
 pub returns-in-Tree-clause-text : goal.returns-in-Tree-clause-text
-returns-in-Tree-clause-text g c = rw c.in-Tree.is (meets_wider _ _ _ _ c.tree.result (λ s memory. inl memory) c.tree.ensures)
+returns-in-Tree-clause-text g c =
+    let asked = c.args.asked.now in
+    let its = subst (λ (names : List (List ℕ)). MeetsBut IsMemory ready_text (tree_in c.args.profile asked.root asked.target asked.options.form names c.args.texts) c.tree.result) c.items-names.ensures.items c.tree.ensures in
+    rw c.in-Tree.is (meets_wider _ _ _ _ c.tree.result (λ s memory. inl memory) its)
 
 pub returns-in-Tree-clause-reports : goal.returns-in-Tree-clause-reports
 returns-in-Tree-clause-reports g c = all_kept (λ b. (goal.Report-dyn g (b.vtable, b.value)).text b.value) (λ b. (goal.Report-dyn g (b.vtable, b.value)).label b.value) (λ b. (goal.Report-dyn g (b.vtable, b.value)).report_faults b.value) _ c.args.reports.now.items
@@ -174,6 +195,15 @@ returns-in-Report-clause-text g c =
 
 pub returns-in-Report-clause-by_lines : goal.returns-in-Report-clause-by_lines
 returns-in-Report-clause-by_lines g c = held_is _ c.report.result c.ready_of-in-Report.result c.ready_of-in-Report.ensures
+
+pub returns-in-Compare-clause-text : goal.returns-in-Compare-clause-text
+returns-in-Compare-clause-text g c = rw c.in-Compare.is (ready_held _ _ c.compare.result c.ready_of-in-Compare.result c.ready_of-in-Compare.ensures (λ s memory. inl memory) c.compare.ensures)
+
+pub returns-in-Compare-clause-by_lines : goal.returns-in-Compare-clause-by_lines
+returns-in-Compare-clause-by_lines g c = held_is _ c.compare.result c.ready_of-in-Compare.result c.ready_of-in-Compare.ensures
+
+pub returns-in-Compare-clause-reports : goal.returns-in-Compare-clause-reports
+returns-in-Compare-clause-reports g c = all_kept (λ b. (goal.Report-dyn g (b.vtable, b.value)).text b.value) (λ b. (goal.Report-dyn g (b.vtable, b.value)).label b.value) (λ b. (goal.Report-dyn g (b.vtable, b.value)).report_faults b.value) _ c.args.reports.now.items
 
 pub returns-in-Require-clause-text : goal.returns-in-Require-clause-text
 returns-in-Require-clause-text g c = inr (inl refl)

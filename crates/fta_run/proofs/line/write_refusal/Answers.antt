@@ -1,6 +1,7 @@
 use Rattle.std.proofs.Common.{◌≡◌, ℕ, List, ◌++◌, codes, sym, ap, ◌∙◌, append_assoc}
 use Rattle.std.proofs.lemmas.Result.{err_from_is_err_and}
 use Rattle.plain_values.specs.Refusal.{code_text}
+use Rattle.fta_words.specs.inner.Words.{all_names}
 use Rattle.fta_run.specs.Line.{limit_text, place_text}
 use Rattle.fta_outside.proofs.Writing.{wrote_not, wrote_then}
 use Rattle.fta_run.proofs.line.write_refusal.Goals as goal
@@ -12,7 +13,7 @@ line_parts start code place limit end = simp append_assoc
 pub returns-in_err-write_two : goal.returns-in_err-write_two
 returns-in_err-write_two g c =
     let refusal = c.args.refusal.now in
-    let place = place_text c.args.files.now refusal.place in
+    let place = place_text (all_names c.args.files.now) refusal.place in
     let limit = limit_text refusal.limit in
     let code : code_text refusal.code ≡ c.as_bytes.result.now = sym (c.as_bytes.ensures.value ∙ c.text.ensures) in
     let whole = ap (λ text. codes "aadl_fta: " ++ ((text ++ (place ++ limit)) ++ codes "\n")) code ∙ line_parts (codes "aadl_fta: ") c.as_bytes.result.now place limit (codes "\n") in
@@ -22,7 +23,7 @@ returns-in_err-write_two g c =
 pub returns : goal.returns
 returns g c =
     let refusal = c.args.refusal.now in
-    let place = place_text c.args.files.now refusal.place in
+    let place = place_text (all_names c.args.files.now) refusal.place in
     let limit = limit_text refusal.limit in
     let code : code_text refusal.code ≡ c.as_bytes.result.now = sym (c.as_bytes.ensures.value ∙ c.text.ensures) in
     let whole = ap (λ text. codes "aadl_fta: " ++ ((text ++ (place ++ limit)) ++ codes "\n")) code ∙ line_parts (codes "aadl_fta: ") c.as_bytes.result.now place limit (codes "\n") in

@@ -4,6 +4,3 @@ use Rattle.fta_words.proofs.asked.asked_of.Goals as goal
 
 pub returns-in-Number : goal.returns-in-Number
 returns-in-Number c = subst (λ s. AsksAs s c.args.words.now c.number.result) (sym c.in-Number.is ∙ c.shape_of.ensures) c.number.ensures
-
-pub returns-in-Place : goal.returns-in-Place
-returns-in-Place c = subst (λ s. AsksAs s c.args.words.now c.place.result) (sym c.in-Place.is ∙ c.shape_of.ensures) c.place.ensures

@@ -10,7 +10,7 @@ two_files words files root target is many = let four : 4 ≤ length (root ∷ ta
 
 of_target : (words : List (List ℕ)) → 4 ≤ length words → (answer : Option Asked) → AsksAs shape.Target words answer → AsksAs shape.Derivation words answer
 of_target words many None none = λ root target number of files x. none root target number of files (x.0, x.1, x.2, x.3, x.4, x.5, x.6)
-of_target words many (Some asked) x = (x.0, x.1, x.2, x.3, x.4, x.5, x.6, two_files words asked.files.now x.0 x.1 x.2 many)
+of_target words many (Some asked) x = (x.0, x.1, x.2, x.3, x.4, x.5, x.6, two_files words asked.files x.0 x.1 x.2 many)
 
 pub returns : goal.returns
 returns c = IfOk-weaker c.target.result _ _ (of_target c.args.words.now c.if-words-lt4.false) c.target.ensures

@@ -10,7 +10,7 @@ two_files words files root is many = let three : 3 ≤ length (root ∷ files) =
 
 of_model : (words : List (List ℕ)) → 3 ≤ length words → (answer : Option Asked) → AsksAs shape.Model words answer → AsksAs shape.Requirements words answer
 of_model words many None none = λ root target number of files x. none root target number of files (x.0, x.1, x.2, x.3, x.4, x.5)
-of_model words many (Some asked) x = (x.0, x.1, x.2, x.3, x.4, x.5, two_files words asked.files.now x.0 x.1 many)
+of_model words many (Some asked) x = (x.0, x.1, x.2, x.3, x.4, x.5, two_files words asked.files x.0 x.1 many)
 
 pub returns : goal.returns
 returns c = IfOk-weaker c.model.result _ _ (of_model c.args.words.now c.if-words-lt3.false) c.model.ensures

@@ -1,10 +1,9 @@
 -- What changed between the minimal cut sets of a target in two systems, by the names of the events, and the text that tells it.
-use Rattle.std.specs.Prelude.{ℕ, ◌≡◌, ◌↔◌, ◌&&◌, not, Contains, Bool, List, [], ◌∷◌, ◌++◌, codes, decimal, filter, length, map, Option}
+use Rattle.std.specs.Prelude.{ℕ, ◌≡◌, ◌&&◌, not, Bool, List, [], ◌∷◌, ◌++◌, codes, decimal, filter, length, map, Option}
 use Rattle.std.specs.List.{flat_map, list_all, list_any}
 use Rattle.plain_values.specs.Name.{is_same_text}
 use Rattle.fault_system.specs.Systems.{System, event_name}
-use Rattle.fault_system.specs.CutSets.{IsMinimalCutSet}
-use Rattle.fault_system.specs.Listings.{IsListing, IsWithinOrder}
+use Rattle.fault_system.specs.Listings.{IsListing}
 use Rattle.cutset_lister.specs.SetText.{set_text}
 
 -- the names of the events of a set
@@ -27,14 +26,6 @@ is_matched here there others set = list_any (have_same_names here set there) oth
 -- of some sets of the one system, those whose names no set of the other has, in their order
 unfoldable pub unmatched : System → System → List (List ℕ) → List (List ℕ) → List (List ℕ)
 unmatched here there others sets = filter (λ set. not (is_matched here there others set)) sets
-
--- a minimal cut set of the one target, of at most so many events where a greatest order is given, of which no such set of the other
--- target has the same names
-pub record HasNoEqual (here : System) (target : ℕ) (there : System) (other_target : ℕ) (most : Option ℕ) (set : List ℕ) : Type 0 where
-  pub minimal : IsMinimalCutSet here target set
-  pub within : IsWithinOrder most set
-  pub alone : (other : List ℕ) → IsMinimalCutSet there other_target other → IsWithinOrder most other
-      → ((name : List ℕ) → Contains (names_of here set) name ↔ Contains (names_of there other) name) → ⊥
 
 -- the line of a set: a word, its order, and its text as a listing has it
 abbrev pub change_line : List ℕ → System → List ℕ → List ℕ
