@@ -43,8 +43,8 @@ use Rattle.fta_run.specs.Compared.{compared_text}
 use Rattle.fta_run.specs.Sets.{set_asked}
 use Rattle.fta_run.specs.Due.{compared_in, confirmed_in, cuts_in, due, first_text, galileo_in, is_require, made_of_texts, made_root, made_target, make_text, model_of_texts, other_texts, output_for, output_with, require_in, required_in, sets_of_tree, sized_text, text_by, texts_of, units_of, within_limits}
 use Rattle.fta_run.specs.inner.Texts.{request_text, text_due}
-use Rattle.fta_run.specs.Required.{Output}
-use Rattle.fta_run.proofs.RequiredLaws.{required-decided}
+use Rattle.fta_run.specs.Required.{Output, TellsLines}
+use Rattle.fta_run.proofs.RequiredLaws.{lines-decided, output-decided, required-opened}
 use Rattle.target_orders.specs.Text.{TellsOrders}
 use Rattle.target_orders.proofs.Said.{one-text}
 use Rattle.fta_run.specs.Effects.{asked_targets}
@@ -53,7 +53,7 @@ use Rattle.galileo_reader.specs.TreeSystems.{system_of, target_of as top_of_tree
 use Rattle.galileo_reader.proofs.SystemLaws.{tree-system}
 use Rattle.galileo_reader.proofs.TreeTexts.{tree-named}
 use Rattle.fta_words.specs.declared.command.Options.{Options}
-use Rattle.fta_run.specs.inner.OneEnd.{AskForOneText, IsDecidedButLast, IsLikeEnd, KeepsGates}
+use Rattle.fta_run.specs.inner.OneEnd.{AskForOneText, HasNoProbability, HasSets, IsDecidedButLast, IsLikeEnd, KeepsGates}
 use Rattle.fta_run.proofs.LikeEnds.{alike, opened}
 use Rattle.fta_run.specs.Later.{IsLater, in_later_files, later_file, later_refusal}
 use Rattle.fta_run.specs.Answers.{AllTold, IsOutput, IsSameStatus}
@@ -155,10 +155,22 @@ confirmed_decided profile root target set texts short = (
       confirm_decided IsSameStatus itself (first_text texts) model.system plain.is_system (fact_line_names model.system plain) (event_line_names model.system plain) short target (set_asked profile set model.system) (token_names model.system plain),
 )
 
-required_in_decided : (profile : Profile) (root : Root) (tap : Bool) (texts : List (List ℕ)) → IsDecided IsSameStatus (required_in profile root tap texts)
-required_in_decided profile root tap texts = (
+required_in_decided : (profile : Profile) (root : Root) (tap : Bool) (texts : List (List ℕ)) → HasNoProbability (first_text texts) → IsDecided IsSameStatus (required_in profile root tap texts)
+required_in_decided profile root tap texts sets = (
   later_decided 1 (model_of_texts profile root (other_texts texts)) (texts_model_decided profile root (other_texts texts)),
-  λ model at. required-decided IsSameStatus itself model.system tap (first_text texts),
+  λ model at. output-decided IsSameStatus itself model.system model.rates tap (first_text texts) sets,
+)
+
+require_decided : (profile : Profile) (root : Root) (tap : Bool) (texts : List (List ℕ)) → HasNoProbability (first_text texts) → IsDecided IsSameStatus (require_in profile root tap texts)
+require_decided profile root tap texts sets = (
+  later_decided 1 (model_of_texts profile root (other_texts texts)) (texts_model_decided profile root (other_texts texts)),
+  λ model at. lines-decided IsSameStatus itself model.system model.rates tap (first_text texts) sets,
+)
+
+require_opened : (profile : Profile) (root : Root) (tap : Bool) (texts : List (List ℕ)) → IsDecidedButLast IsSameStatus (require_in profile root tap texts)
+require_opened profile root tap texts = (
+  later_decided 1 (model_of_texts profile root (other_texts texts)) (texts_model_decided profile root (other_texts texts)),
+  λ model at. required-opened IsSameStatus itself model.system (TellsLines tap model.system model.rates) (first_text texts),
 )
 
 compared_text_decided : (target : List ℕ) (max_order : Option ℕ) (older newer : System) → IsDecided IsSameStatus (compared_text target max_order older newer)
@@ -184,9 +196,6 @@ compared_decided profile root target count max_order texts = (
     λ newer behind. compared_text_decided target max_order older.system newer.system,
   ),
 )
-
-require_decided : (profile : Profile) (root : Root) (tap : Bool) (texts : List (List ℕ)) → IsDecided IsSameStatus (require_in profile root tap texts)
-require_decided profile root tap texts = (required_in_decided profile root tap texts, λ told at. tt)
 
 sized_decided : (model : FlatModel) → IsDecided IsSameStatus (sized_text model)
 sized_decided model =
@@ -239,52 +248,52 @@ galileo_in_opened false options files texts =
 
 -- ---- what a request asks for
 
-text_decided : (profile : Profile) (asked_kind : Kind) (voices : List Voice) (asked : Request) (texts : List (List ℕ)) → length (first_text texts) ≤ 4194304 → KeepsGates asked_kind asked → IsDecided IsSameStatus (text_by profile asked_kind voices asked texts)
-text_decided profile kind.Check voices asked texts short keeps = (texts_model_decided profile asked.root texts, λ model at. tt)
-text_decided profile kind.Cuts voices asked texts short keeps = cuts_in_decided profile asked.root asked.target asked.options.paging (is_set asked.options (codes "tokens")) texts
-text_decided profile kind.Tree voices asked texts short keeps =
+text_decided : (profile : Profile) (asked_kind : Kind) (voices : List Voice) (asked : Request) (texts : List (List ℕ)) → length (first_text texts) ≤ 4194304 → KeepsGates asked_kind asked → HasSets asked_kind texts → IsDecided IsSameStatus (text_by profile asked_kind voices asked texts)
+text_decided profile kind.Check voices asked texts short keeps sets = (texts_model_decided profile asked.root texts, λ model at. tt)
+text_decided profile kind.Cuts voices asked texts short keeps sets = cuts_in_decided profile asked.root asked.target asked.options.paging (is_set asked.options (codes "tokens")) texts
+text_decided profile kind.Tree voices asked texts short keeps sets =
     (texts_model_decided profile asked.root texts, λ model at. tree_decided IsSameStatus itself asked.target (form_asked profile asked texts) model.system model.rates keeps (plain_model profile asked.root texts model at).system.is_system)
-text_decided profile kind.Fmea voices asked texts short keeps = (texts_model_decided profile asked.root texts, λ model at. tt)
-text_decided profile kind.Report voices asked texts short keeps =
+text_decided profile kind.Fmea voices asked texts short keeps sets = (texts_model_decided profile asked.root texts, λ model at. tt)
+text_decided profile kind.Report voices asked texts short keeps sets =
     (texts_model_decided profile asked.root texts, λ model at. report_decided IsSameStatus itself asked.target asked.options.chosen asked.options.paging.max_order voices model.system)
-text_decided profile kind.Make voices asked texts short keeps = make_decided asked.number (is_set asked.options (codes "text"))
-text_decided profile kind.Galileo voices asked texts short keeps = galileo_in_decided (is_drawn asked.options.form) asked.options asked.files texts keeps
-text_decided profile kind.Paths voices asked texts short keeps =
+text_decided profile kind.Make voices asked texts short keeps sets = make_decided asked.number (is_set asked.options (codes "text"))
+text_decided profile kind.Galileo voices asked texts short keeps sets = galileo_in_decided (is_drawn asked.options.form) asked.options asked.files texts keeps
+text_decided profile kind.Paths voices asked texts short keeps sets =
     (texts_model_decided profile asked.root texts, λ model at. plain_paths_decided asked.target asked.options.paging model.system (plain_model profile asked.root texts model at).system)
-text_decided profile kind.Why voices asked texts short keeps = (texts_model_decided profile asked.root texts, λ model at. plain_why_decided asked.target (set_asked profile asked.options.set model.system) model.system (plain_model profile asked.root texts model at).system)
-text_decided profile kind.Confirm voices asked texts short keeps = confirmed_decided profile asked.root asked.target asked.options.set texts short
-text_decided profile kind.Targets voices asked texts short keeps =
+text_decided profile kind.Why voices asked texts short keeps sets = (texts_model_decided profile asked.root texts, λ model at. plain_why_decided asked.target (set_asked profile asked.options.set model.system) model.system (plain_model profile asked.root texts model at).system)
+text_decided profile kind.Confirm voices asked texts short keeps sets = confirmed_decided profile asked.root asked.target asked.options.set texts short
+text_decided profile kind.Targets voices asked texts short keeps sets =
     (texts_model_decided profile asked.root texts, λ model at. decided_accepts IsSameStatus (TellsOrders model.system (asked_targets (is_set asked.options (codes "all")) model)) (one-text model.system (asked_targets (is_set asked.options (codes "all")) model)))
-text_decided profile kind.Events voices asked texts short keeps = (made_decided origins_phase profile (origins_decided IsSameStatus itself profile) asked.root texts, λ model at. tt)
-text_decided profile kind.Review voices asked texts short keeps = (made_decided review_phase profile (review_decided IsSameStatus itself profile) asked.root texts, λ reviewed at. tt)
-text_decided profile kind.Place voices asked texts short keeps = tt
-text_decided profile kind.Manifest voices asked texts short keeps = (texts_model_decided profile asked.root texts, λ model at. tt)
-text_decided profile kind.Refusals voices asked texts short keeps = absurd keeps
-text_decided profile kind.Probability voices asked texts short keeps = absurd keeps
-text_decided profile kind.Require voices asked texts short keeps = require_decided profile asked.root (is_set asked.options (codes "tap")) texts
-text_decided profile kind.Compare voices asked texts short keeps = compared_decided profile asked.root asked.target asked.number asked.options.paging.max_order texts
-text_decided profile kind.Help voices asked texts short keeps = tt
-text_decided profile kind.Explain voices asked texts short keeps = tt
-text_decided profile kind.Version voices asked texts short keeps = tt
+text_decided profile kind.Events voices asked texts short keeps sets = (made_decided origins_phase profile (origins_decided IsSameStatus itself profile) asked.root texts, λ model at. tt)
+text_decided profile kind.Review voices asked texts short keeps sets = (made_decided review_phase profile (review_decided IsSameStatus itself profile) asked.root texts, λ reviewed at. tt)
+text_decided profile kind.Place voices asked texts short keeps sets = tt
+text_decided profile kind.Manifest voices asked texts short keeps sets = (texts_model_decided profile asked.root texts, λ model at. tt)
+text_decided profile kind.Refusals voices asked texts short keeps sets = absurd keeps
+text_decided profile kind.Probability voices asked texts short keeps sets = absurd keeps
+text_decided profile kind.Require voices asked texts short keeps sets = require_decided profile asked.root (is_set asked.options (codes "tap")) texts sets
+text_decided profile kind.Compare voices asked texts short keeps sets = compared_decided profile asked.root asked.target asked.number asked.options.paging.max_order texts
+text_decided profile kind.Help voices asked texts short keeps sets = tt
+text_decided profile kind.Explain voices asked texts short keeps sets = tt
+text_decided profile kind.Version voices asked texts short keeps sets = tt
 
 -- the ends of what a request of a kind asks for are alike, also of a tree with merged gates
 text_opened : (profile : Profile) (asked_kind : Kind) (voices : List Voice) (asked : Request) (texts : List (List ℕ)) → length (first_text texts) ≤ 4194304 → IsDecidedButLast IsSameStatus (text_by profile asked_kind voices asked texts)
-text_opened profile kind.Check voices asked texts short = decided_opened (text_by profile kind.Check voices asked texts) (text_decided profile kind.Check voices asked texts short tt)
-text_opened profile kind.Cuts voices asked texts short = decided_opened (text_by profile kind.Cuts voices asked texts) (text_decided profile kind.Cuts voices asked texts short tt)
+text_opened profile kind.Check voices asked texts short = decided_opened (text_by profile kind.Check voices asked texts) (text_decided profile kind.Check voices asked texts short tt tt)
+text_opened profile kind.Cuts voices asked texts short = decided_opened (text_by profile kind.Cuts voices asked texts) (text_decided profile kind.Cuts voices asked texts short tt tt)
 text_opened profile kind.Tree voices asked texts short =
     (texts_model_decided profile asked.root texts, λ model at. tree_opened asked.target (form_asked profile asked texts) model.system model.rates (plain_model profile asked.root texts model at).system.is_system)
-text_opened profile kind.Fmea voices asked texts short = decided_opened (text_by profile kind.Fmea voices asked texts) (text_decided profile kind.Fmea voices asked texts short tt)
-text_opened profile kind.Report voices asked texts short = decided_opened (text_by profile kind.Report voices asked texts) (text_decided profile kind.Report voices asked texts short tt)
-text_opened profile kind.Make voices asked texts short = decided_opened (text_by profile kind.Make voices asked texts) (text_decided profile kind.Make voices asked texts short tt)
+text_opened profile kind.Fmea voices asked texts short = decided_opened (text_by profile kind.Fmea voices asked texts) (text_decided profile kind.Fmea voices asked texts short tt tt)
+text_opened profile kind.Report voices asked texts short = decided_opened (text_by profile kind.Report voices asked texts) (text_decided profile kind.Report voices asked texts short tt tt)
+text_opened profile kind.Make voices asked texts short = decided_opened (text_by profile kind.Make voices asked texts) (text_decided profile kind.Make voices asked texts short tt tt)
 text_opened profile kind.Galileo voices asked texts short = galileo_in_opened (is_drawn asked.options.form) asked.options asked.files texts
-text_opened profile kind.Paths voices asked texts short = decided_opened (text_by profile kind.Paths voices asked texts) (text_decided profile kind.Paths voices asked texts short tt)
-text_opened profile kind.Why voices asked texts short = decided_opened (text_by profile kind.Why voices asked texts) (text_decided profile kind.Why voices asked texts short tt)
-text_opened profile kind.Confirm voices asked texts short = decided_opened (text_by profile kind.Confirm voices asked texts) (text_decided profile kind.Confirm voices asked texts short tt)
-text_opened profile kind.Targets voices asked texts short = decided_opened (text_by profile kind.Targets voices asked texts) (text_decided profile kind.Targets voices asked texts short tt)
-text_opened profile kind.Events voices asked texts short = decided_opened (text_by profile kind.Events voices asked texts) (text_decided profile kind.Events voices asked texts short tt)
-text_opened profile kind.Review voices asked texts short = decided_opened (text_by profile kind.Review voices asked texts) (text_decided profile kind.Review voices asked texts short tt)
-text_opened profile kind.Place voices asked texts short = decided_opened (text_by profile kind.Place voices asked texts) (text_decided profile kind.Place voices asked texts short tt)
-text_opened profile kind.Manifest voices asked texts short = decided_opened (text_by profile kind.Manifest voices asked texts) (text_decided profile kind.Manifest voices asked texts short tt)
+text_opened profile kind.Paths voices asked texts short = decided_opened (text_by profile kind.Paths voices asked texts) (text_decided profile kind.Paths voices asked texts short tt tt)
+text_opened profile kind.Why voices asked texts short = decided_opened (text_by profile kind.Why voices asked texts) (text_decided profile kind.Why voices asked texts short tt tt)
+text_opened profile kind.Confirm voices asked texts short = decided_opened (text_by profile kind.Confirm voices asked texts) (text_decided profile kind.Confirm voices asked texts short tt tt)
+text_opened profile kind.Targets voices asked texts short = decided_opened (text_by profile kind.Targets voices asked texts) (text_decided profile kind.Targets voices asked texts short tt tt)
+text_opened profile kind.Events voices asked texts short = decided_opened (text_by profile kind.Events voices asked texts) (text_decided profile kind.Events voices asked texts short tt tt)
+text_opened profile kind.Review voices asked texts short = decided_opened (text_by profile kind.Review voices asked texts) (text_decided profile kind.Review voices asked texts short tt tt)
+text_opened profile kind.Place voices asked texts short = decided_opened (text_by profile kind.Place voices asked texts) (text_decided profile kind.Place voices asked texts short tt tt)
+text_opened profile kind.Manifest voices asked texts short = decided_opened (text_by profile kind.Manifest voices asked texts) (text_decided profile kind.Manifest voices asked texts short tt tt)
 text_opened profile kind.Refusals voices asked texts short = (λ text status tells none. none, λ a b none. absurd none)
 text_opened profile kind.Probability voices asked texts short = (
   texts_model_decided profile asked.root texts,
@@ -293,18 +302,24 @@ text_opened profile kind.Probability voices asked texts short = (
     λ number named. (slice_decided IsSameStatus itself number model.system, λ slice served. ((λ text status tells none. none), λ a b none other. absurd none)),
   ),
 )
-text_opened profile kind.Require voices asked texts short = decided_opened (text_by profile kind.Require voices asked texts) (text_decided profile kind.Require voices asked texts short tt)
-text_opened profile kind.Compare voices asked texts short = decided_opened (text_by profile kind.Compare voices asked texts) (text_decided profile kind.Compare voices asked texts short tt)
-text_opened profile kind.Help voices asked texts short = decided_opened (text_by profile kind.Help voices asked texts) (text_decided profile kind.Help voices asked texts short tt)
-text_opened profile kind.Explain voices asked texts short = decided_opened (text_by profile kind.Explain voices asked texts) (text_decided profile kind.Explain voices asked texts short tt)
-text_opened profile kind.Version voices asked texts short = decided_opened (text_by profile kind.Version voices asked texts) (text_decided profile kind.Version voices asked texts short tt)
+text_opened profile kind.Require voices asked texts short = require_opened profile asked.root (is_set asked.options (codes "tap")) texts
+text_opened profile kind.Compare voices asked texts short = decided_opened (text_by profile kind.Compare voices asked texts) (text_decided profile kind.Compare voices asked texts short tt tt)
+text_opened profile kind.Help voices asked texts short = decided_opened (text_by profile kind.Help voices asked texts) (text_decided profile kind.Help voices asked texts short tt tt)
+text_opened profile kind.Explain voices asked texts short = decided_opened (text_by profile kind.Explain voices asked texts) (text_decided profile kind.Explain voices asked texts short tt tt)
+text_opened profile kind.Version voices asked texts short = decided_opened (text_by profile kind.Version voices asked texts) (text_decided profile kind.Version voices asked texts short tt tt)
 
-request_decided : (contents : List ℕ → Option (List ℕ)) (voices : List Voice) (asked : Request) → AllByRecursion (λ file. IsSome (contents file)) asked.files → KeepsGates asked.kind asked → IsDecided IsSameStatus (request_text contents voices asked)
-request_decided contents voices asked told keeps = (texts_decided contents asked.files told, λ texts are. text_decided (profile_of asked.options.form) asked.kind voices asked texts (first_short contents asked.files texts are) keeps)
+request_decided : (contents : List ℕ → Option (List ℕ)) (voices : List Voice) (asked : Request) → AllByRecursion (λ file. IsSome (contents file)) asked.files → KeepsGates asked.kind asked
+    → ((texts : List (List ℕ)) → MayContain contents asked.files texts → HasSets asked.kind texts) → IsDecided IsSameStatus (request_text contents voices asked)
+request_decided contents voices asked told keeps sets = (
+  texts_decided contents asked.files told,
+  λ texts are.
+      let here : HasSets asked.kind texts = subst (HasSets asked.kind) (sym are.2.2.2.2) (sets are.2.0 are.2.1) in
+      text_decided (profile_of asked.options.form) asked.kind voices asked texts (first_short contents asked.files texts are) keeps here,
+)
 
-text_due_decided : (words : List (List ℕ)) (contents : List ℕ → Option (List ℕ)) (voices : List Voice) → AllTold words contents voices → AskForOneText words voices → IsDecided IsSameStatus (text_due words contents voices)
+text_due_decided : (words : List (List ℕ)) (contents : List ℕ → Option (List ℕ)) (voices : List Voice) → AllTold words contents voices → AskForOneText words contents voices → IsDecided IsSameStatus (text_due words contents voices)
 text_due_decided words contents voices told one =
-    (decided_finds IsSameStatus itself (IsRequest (labels voices) words) Usage (one_request (labels voices) words), λ asked is. request_decided contents voices asked (told asked is) (one asked is))
+    (decided_finds IsSameStatus itself (IsRequest (labels voices) words) Usage (one_request (labels voices) words), λ asked is. request_decided contents voices asked (told asked is) (one asked is).0 (one asked is).1)
 
 text_due_opened : (words : List (List ℕ)) (contents : List ℕ → Option (List ℕ)) (voices : List Voice) → AllTold words contents voices → IsDecidedButLast IsSameStatus (text_due words contents voices)
 text_due_opened words contents voices told = (
@@ -338,21 +353,50 @@ require_is kind.Explain is = absurd (false≢true is)
 require_is kind.Help is = absurd (false≢true is)
 require_is kind.Version is = absurd (false≢true is)
 
+-- a text of requirements stops as what is told of it does
+lines_stopped : (profile : Profile) (root : Root) (tap : Bool) (texts : List (List ℕ)) (status : Status) → Stopped (required_in profile root tap texts) status → Stopped (require_in profile root tap texts) status
+lines_stopped profile root tap texts status stopped =
+    elim stopped [
+      | inl model ↦ inl model
+      | inr at ↦ inr (
+        at.0,
+        at.1,
+        elim at.2 [
+          | inl unread ↦ inl unread
+          | inr read ↦ inr (
+            read.0,
+            read.1,
+            elim read.2 [
+              | inl unnamed ↦ inl unnamed
+              | inr named ↦ inr (named.0, named.1, elim named.2 [ inl large ↦ inl large | inr none ↦ absurd none.2 ])
+            ],
+          )
+        ],
+      )
+    ]
+
 module _ (profile : Profile) (voices : List Voice) (asked : Request) (texts : List (List ℕ)) where
   text_passes : (tells : Bool) (k : Kind) → is_require k ≡ tells → (output : Output) → Passed (output_with tells profile k voices asked texts) output → Passed (text_by profile k voices asked texts) output.text
-  text_passes true k is output passed = subst (λ (its : Kind). Passed (text_by profile its voices asked texts) output.text) (sym (require_is k is)) (output, passed, refl)
+  text_passes true k is output passed =
+      let all = passed.2 in
+      let named = all.2 in
+      let slices = named.2 in
+      let lines : Passed (text_by profile kind.Require voices asked texts) output.text = (passed.0, passed.1, (all.0, all.1, (named.0, named.1, (slices.0, slices.1, (output, slices.2, refl))))) in
+      subst (λ (its : Kind). Passed (text_by profile its voices asked texts) output.text) (sym (require_is k is)) lines
   text_passes false k is output passed = subst (λ (text : List ℕ). Passed (text_by profile k voices asked texts) text) (sym (ap (λ (o : Output). o.text) passed.2)) passed.1
 
   text_stopped : (tells : Bool) (k : Kind) → is_require k ≡ tells → (status : Status) → Stopped (output_with tells profile k voices asked texts) status → Stopped (text_by profile k voices asked texts) status
-  text_stopped true k is status stopped = subst (λ (its : Kind). Stopped (text_by profile its voices asked texts) status) (sym (require_is k is)) (inl stopped)
+  text_stopped true k is status stopped =
+      subst (λ (its : Kind). Stopped (text_by profile its voices asked texts) status) (sym (require_is k is)) (lines_stopped profile asked.root (is_set asked.options (codes "tap")) texts status stopped)
   text_stopped false k is status stopped = elim stopped [ inl here ↦ here | inr none ↦ absurd none.2 ]
 
-  -- whether a requirement is not met is decided
-  met_once : (tells : Bool) (k : Kind) (a b : Output) → Passed (output_with tells profile k voices asked texts) a → Passed (output_with tells profile k voices asked texts) b → a.met ≡ b.met
-  met_once true k a b p q =
+  -- whether a requirement is not met is decided, where none is on a probability
+  met_once : (tells : Bool) (k : Kind) → is_require k ≡ tells → HasSets k texts → (a b : Output) → Passed (output_with tells profile k voices asked texts) a → Passed (output_with tells profile k voices asked texts) b → a.met ≡ b.met
+  met_once true k is sets a b p q =
       let tap : Bool = is_set asked.options (codes "tap") in
-      ap (λ (o : Output). o.met) (decided.one_value IsSameStatus (required_in profile asked.root tap texts) (required_in_decided profile asked.root tap texts) a b (record { passed = p }) (record { passed = q }))
-  met_once false k a b p q = ap (λ (o : Output). o.met) p.2 ∙ sym (ap (λ (o : Output). o.met) q.2)
+      let none : HasNoProbability (first_text texts) = subst (λ (its : Kind). HasSets its texts) (require_is k is) sets in
+      ap (λ (o : Output). o.met) (decided.one_value IsSameStatus (required_in profile asked.root tap texts) (required_in_decided profile asked.root tap texts none) a b (record { passed = p }) (record { passed = q }))
+  met_once false k is sets a b p q = ap (λ (o : Output). o.met) p.2 ∙ sym (ap (λ (o : Output). o.met) q.2)
 
 module _ (words : List (List ℕ)) (contents : List ℕ → Option (List ℕ)) (voices : List Voice) where
   pub due_text : (output : Output) → Passes (due words contents voices) output → Passes (text_due words contents voices) output.text
@@ -372,28 +416,29 @@ module _ (words : List (List ℕ)) (contents : List ℕ → Option (List ℕ)) (
         ]
       ]
 
-  pub same_met : AllTold words contents voices → (a b : Output) → Passes (due words contents voices) a → Passes (due words contents voices) b → a.met ≡ b.met
-  same_met told a b p q = go p.passed.0 q.passed.0 (one_request (labels voices) words p.passed.0 q.passed.0 p.passed.1 q.passed.1) p.passed.1 p.passed.2.0 q.passed.2.0 p.passed.2.1 q.passed.2.1 p.passed.2.2 q.passed.2.2
+  same_met : AllTold words contents voices → AskForOneText words contents voices → (a b : Output) → Passes (due words contents voices) a → Passes (due words contents voices) b → a.met ≡ b.met
+  same_met told one a b p q = go p.passed.0 q.passed.0 (one_request (labels voices) words p.passed.0 q.passed.0 p.passed.1 q.passed.1) p.passed.1 p.passed.2.0 q.passed.2.0 p.passed.2.1 q.passed.2.1 p.passed.2.2 q.passed.2.2
     where
       go : (asked other : Request) → asked ≡ other → IsRequest (labels voices) words asked → (texts others : List (List ℕ)) → Passed (texts_of contents asked.files) texts → Passed (texts_of contents other.files) others
           → Passed (output_for asked.kind voices asked texts) a → Passed (output_for other.kind voices other others) b → a.met ≡ b.met
       go asked other same is texts others read also x y =
           let read_too : Passed (texts_of contents asked.files) others = subst (λ (its : Request). Passed (texts_of contents its.files) others) (sym same) also in
-          let one : texts ≡ others = decided.one_value IsSameStatus (texts_of contents asked.files) (texts_decided contents asked.files (told asked is)) texts others (record { passed = read }) (record { passed = read_too }) in
+          let equal : texts ≡ others = decided.one_value IsSameStatus (texts_of contents asked.files) (texts_decided contents asked.files (told asked is)) texts others (record { passed = read }) (record { passed = read_too }) in
           let its_too : Passed (output_for asked.kind voices asked others) b = subst (λ (its : Request). Passed (output_for its.kind voices its others) b) (sym same) y in
-          let its : Passed (output_for asked.kind voices asked texts) b = subst (λ (these : List (List ℕ)). Passed (output_for asked.kind voices asked these) b) (sym one) its_too in
-          met_once (profile_of asked.options.form) voices asked texts (is_require asked.kind) asked.kind a b x its
+          let its : Passed (output_for asked.kind voices asked texts) b = subst (λ (these : List (List ℕ)). Passed (output_for asked.kind voices asked these) b) (sym equal) its_too in
+          let sets : HasSets asked.kind texts = subst (HasSets asked.kind) (sym read.2.2.2.2) ((one asked is).1 read.2.0 read.2.1) in
+          met_once (profile_of asked.options.form) voices asked texts (is_require asked.kind) asked.kind refl sets a b x its
 
   -- ---- one end at most
 
-  pub one_output : AllTold words contents voices → AskForOneText words voices → (a b : Output) → IsOutput words contents voices a → IsOutput words contents voices b → a ≡ b
+  pub one_output : AllTold words contents voices → AskForOneText words contents voices → (a b : Output) → IsOutput words contents voices a → IsOutput words contents voices b → a ≡ b
   one_output told one a b p q =
       let text : a.text ≡ b.text = decided.one_value IsSameStatus (text_due words contents voices) (text_due_decided words contents voices told one) a.text b.text (due_text a p) (due_text b q) in
-      let met : a.met ≡ b.met = same_met told a b p q in
+      let met : a.met ≡ b.met = same_met told one a b p q in
       let same : ◌≡◌ {A = Output} (record { text = a.text; met = a.met }) (record { text = b.text; met = b.met }) = cc (text, met) in
       same
 
-  pub one_due : AllTold words contents voices → AskForOneText words voices → (a b : Result Output Status) → IsDue (due words contents voices) a → IsDue (due words contents voices) b → IsSameEnd IsSameStatus a b
+  pub one_due : AllTold words contents voices → AskForOneText words contents voices → (a b : Result Output Status) → IsDue (due words contents voices) a → IsDue (due words contents voices) b → IsSameEnd IsSameStatus a b
   one_due told one (Ok x) (Ok y) p q = one_output told one x y p q
   one_due told one (Ok x) (Err t) p q = decided.not_both IsSameStatus (text_due words contents voices) (text_due_decided words contents voices told one) x.text t (due_text x p) (due_stop t q)
   one_due told one (Err s) (Ok y) p q = decided.not_both IsSameStatus (text_due words contents voices) (text_due_decided words contents voices told one) y.text s (due_text y q) (due_stop s p)

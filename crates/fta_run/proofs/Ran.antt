@@ -1,6 +1,6 @@
 -- How a run ended, and what is due.
 use Rattle.std.proofs.Common.{◌≡◌, ◌∙◌, ◌<◌, ◌⊎◌, ℕ, Bool, true, false, List, [], ◌∷◌, length, take, drop, Option, None, Some, Result, Ok, Err, refl, sym, ap, subst, inl, inr, codes}
-use Rattle.std.specs.Prelude.{IfOk, IsErrAnd, IsOk, IsOkAnd, MatchResult}
+use Rattle.std.specs.Prelude.{IfOk, IsErrAnd, IsOk, MatchResult}
 use Rattle.std.proofs.lemmas.Bool.{false≢true}
 use Rattle.std.proofs.lemmas.Result.{err_from_is_err_and}
 use Rattle.plain_values.specs.declared.refusal.Code.TheVariants.{TooManyFiles}
@@ -46,7 +46,7 @@ use Rattle.fta_run.specs.Compared.{compared_text}
 use Rattle.fta_run.specs.Sets.{set_asked}
 use Rattle.fta_run.specs.Due.{compared_in, confirmed_in, cuts_in, due, first_text, galileo_in, is_require, made_of_texts, made_root, made_target, make_text, model_of_texts, other_texts, output_for, output_with, report_in, require_in, required_in, sets_of_tree, sized_text, text_by, texts_of, within_limits}
 use Rattle.fta_run.specs.inner.Texts.{request_text, text_due, text_for}
-use Rattle.fta_run.specs.Required.{Output, with_all_met}
+use Rattle.fta_run.specs.Required.{Output, TellsLines, with_all_met}
 use Rattle.fta_run.specs.Forms.{drawn_words, is_drawn, is_merging, is_wide, picture_legend, profile_of, tree_form, tree_words}
 use Rattle.fta_words.specs.declared.command.Options.{Options}
 use Rattle.fta_run.specs.Later.{IsLater}
@@ -70,7 +70,7 @@ use Rattle.fta_run.specs.declared.ready.Held.{Held}
 use Rattle.fta_run.specs.declared.ready.Ready.{Ready}
 use Rattle.fta_run.specs.declared.ready.Ready.TheVariants as made
 use Rattle.fta_run.specs.inner.Ready.{IsByLines, answer_output, held_text, ready_text}
-use Rattle.fta_run.proofs.OneDue.{due_stop, due_text, one_end, same_met, text_or_not}
+use Rattle.fta_run.proofs.OneDue.{due_stop, due_text, one_end, text_or_not}
 use Rattle.fta_run.proofs.RequiredLaws.{required-stops}
 
 -- ---- how the phases stop
@@ -222,7 +222,7 @@ cuts_in_stop profile root target paging tokens texts =
     (refusals (model_of_texts profile root texts) (texts_model_stops profile root texts), λ model at. cuts_stop target paging tokens (asked_digits tokens paging.after profile root target paging.max_order texts) model.system)
 
 require_stop : (profile : Profile) (root : Root) (tap : Bool) (texts : List (List ℕ)) → StopsOnly IsARefusal (require_in profile root tap texts)
-require_stop profile root tap texts = ((refusal_is (IsLater 1 (model_of_texts profile root (other_texts texts))), λ model at. required-stops model.system tap (first_text texts)), λ told at. tt)
+require_stop profile root tap texts = (refusal_is (IsLater 1 (model_of_texts profile root (other_texts texts))), λ model at. required-stops model.system (TellsLines tap model.system model.rates) (first_text texts))
 
 compared_text_stop : (target : List ℕ) (max_order : Option ℕ) (older newer : System) → StopsOnly IsARefusal (compared_text target max_order older newer)
 compared_text_stop target max_order older newer = (
@@ -540,16 +540,10 @@ came_ended words contents voices s end told a is_due =
       ]
     ]
 
--- what is due tells as much of requirements as what was written
-met_due : (words : List (List ℕ)) (contents : List ℕ → Option (List ℕ)) (voices : List Voice) → AllTold words contents voices → (a : Result Output Status) (output : Output) → IsDue (due words contents voices) a → Passes (due words contents voices) output
-    → IsOkAnd a (λ its. its.met ≡ output.met)
-met_due words contents voices told (Ok its) output is_due wrote = same_met words contents voices told its output is_due wrote
-met_due words contents voices told (Err s) output is_due wrote = absurd (one_end words contents voices told (Err s) (Ok output) is_due wrote)
-
 pub ran_complete : (words : List (List ℕ)) (contents : List ℕ → Option (List ℕ)) (voices : List Voice) (read_before read_after : List ℕ → ℕ) (RoseThere : ℕ → Type 0) (t u : Seen) (result : Result Bool Status)
     → Runs words contents voices read_before read_after RoseThere result t u → AllTold words contents voices → (a : Result Output Status) → IsDue (due words contents voices) a → MayCome a (ended result)
-ran_complete words contents voices read_before read_after RoseThere t u (Ok true) took told a is_due = met_due words contents voices told a (record { text = took.0; met = true }) is_due took.1
-ran_complete words contents voices read_before read_after RoseThere t u (Ok false) took told a is_due = met_due words contents voices told a (record { text = took.0; met = false }) is_due took.1
+ran_complete words contents voices read_before read_after RoseThere t u (Ok true) took told a is_due = text_or_not words contents voices told a took.0 is_due (due_text words contents voices (record { text = took.0; met = true }) took.1)
+ran_complete words contents voices read_before read_after RoseThere t u (Ok false) took told a is_due = text_or_not words contents voices told a took.0 is_due (due_text words contents voices (record { text = took.0; met = false }) took.1)
 ran_complete words contents voices read_before read_after RoseThere t u (Err s) end told a is_due =
     came_ended words contents voices s (how_ended words contents voices read_before read_after RoseThere t u s end) told a is_due
 

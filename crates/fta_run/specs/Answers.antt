@@ -1,5 +1,5 @@
 -- What a run may answer, and what a sink took where it ended so.
-use Rattle.std.specs.Prelude.{◌≡◌, ◌≤◌, ◌⊎◌, Bool, true, false, ℕ, List, length, Option, Some, Result, Err, IsSome, IsOk, IsOkAnd, IsErrAnd, slice_get}
+use Rattle.std.specs.Prelude.{◌≡◌, ◌≤◌, ◌⊎◌, Bool, true, false, ℕ, List, length, Option, Some, Result, Err, IsSome, IsOk, IsErrAnd, slice_get}
 use Rattle.std.specs.List.{AllByRecursion}
 use Rattle.plain_values.specs.declared.refusal.Code.TheVariants.{TooManyFiles}
 use Rattle.plain_values.specs.declared.refusal.Refusal.{Refusal}
@@ -37,11 +37,12 @@ AllTold words contents voices = (asked : Request) → IsRequest (labels voices) 
 abbrev pub IsSameStatus : Status → Status → Type 0
 IsSameStatus a b = (a ≡ b) ⊎ ((file : ℕ) × (here : ℕ) × (there : ℕ) × (a ≡ Refused (syntax_error file here)) × (b ≡ Refused (syntax_error file there)))
 
--- What may come where this output or this status is due: Done for one that tells of no requirement that is not met, and Unmet for
--- another; that status; want of memory, and a fault of a file; and, where an output is due, a fault of the output or of a report.
+-- What may come where this output or this status is due: Done and Unmet where an output is due, of which what was written says which of them
+-- (where more than one is due, as of requirements on a probability, it is one of these); that status; want of memory, and a fault of a file;
+-- and, where an output is due, a fault of the output or of a report.
 abbrev pub MayCome : Result Output Status → Status → Type 0
-MayCome its_due Done = IsOkAnd its_due (λ output. output.met ≡ true)
-MayCome its_due Unmet = IsOkAnd its_due (λ output. output.met ≡ false)
+MayCome its_due Done = IsOk its_due
+MayCome its_due Unmet = IsOk its_due
 MayCome its_due Usage = its_due ≡ Err Usage
 MayCome its_due (Refused refusal) = IsErrAnd its_due (λ status. IsSameStatus status (Refused refusal))
 MayCome its_due (Constant always) = its_due ≡ Err (Constant always)

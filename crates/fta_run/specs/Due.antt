@@ -36,7 +36,7 @@ use Rattle.fta_run.specs.Later.{in_later_files}
 use Rattle.fta_run.specs.Files.{MayContain, NamesTooMany, HasTooLong, HasTooMuch, AreTokens, LacksTokens, AreUnits, LacksUnits}
 use Rattle.fta_run.specs.Model.{HasDuplicate, root_named}
 use Rattle.fta_run.specs.Sets.{set_asked}
-use Rattle.fta_run.specs.Required.{Output, required_text, with_all_met}
+use Rattle.fta_run.specs.Required.{Output, required_lines, required_text, with_all_met}
 use Rattle.fta_run.specs.Text.{numbers_text}
 use Rattle.system_answers.specs.Derivations.{confirm_text, why_text}
 use Rattle.system_answers.specs.Texts.{cuts_text, drawn_text, galileo_paths_text, galileo_text, paths_text, probability_text, report_text, slice_of, target_of, tree_text}
@@ -249,13 +249,13 @@ refusals_in profile root files texts = accepts (TellsRefusals (model_of_texts pr
 abbrev pub required_in : Profile → Root → Bool → List (List ℕ) → Phase Output
 required_in profile root tap texts = do
   model ← in_later_files 1 (model_of_texts profile root (other_texts texts))
-  required_text tap (first_text texts) model.system
+  required_text tap (first_text texts) model.system model.rates
 
 -- the text of `require`
 abbrev pub require_in : Profile → Root → Bool → List (List ℕ) → Phase (List ℕ)
 require_in profile root tap texts = do
-  told ← required_in profile root tap texts
-  yields told.text
+  model ← in_later_files 1 (model_of_texts profile root (other_texts texts))
+  required_lines tap (first_text texts) model.system model.rates
 
 -- the text of `compare`: what changed from the model of the root in files of the first of these texts, of which there are so many, to that in
 -- files of the others

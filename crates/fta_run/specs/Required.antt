@@ -1,5 +1,5 @@
 -- Requirements that a text has, judged over a system: what is told of them, and why they are refused.
-use Rattle.std.specs.Prelude.{◌≡◌, ℕ, Bool, true, false, List, [], ◌∷◌, Option, Some, None, Result, Ok, Err, min}
+use Rattle.std.specs.Prelude.{◌≡◌, ⊤, ℕ, Bool, true, false, List, [], ◌∷◌, Option, Some, None, Result, Ok, Err, min}
 use Rattle.plain_values.specs.declared.refusal.Code.{Code}
 use Rattle.plain_values.specs.declared.refusal.Code.TheVariants.{BadRequirement, NoRequirement, DuplicateRequirement, UnknownRequirementTarget, BadException}
 use Rattle.plain_values.specs.declared.refusal.Code.TheVariants as code
@@ -17,16 +17,15 @@ use Rattle.requirement_names.specs.declared.mistake.Mistake.{Mistake}
 use Rattle.requirement_names.specs.declared.mistake.Mistake.TheVariants.{DuplicateName, UnknownTarget, UnknownGroup, EmptyGroup, BadToken}
 use Rattle.requirement_names.specs.declared.mistake.WrongWord.{WrongWord}
 use Rattle.requirement_names.specs.declared.named.NamedRequirement.{NamedRequirement}
-use Rattle.requirement_names.specs.declared.named.NamedSentence.{NamedSentence}
-use Rattle.requirement_names.specs.declared.named.NamedSentence.TheVariants.{OfSets, Probability}
 use Rattle.requirement_names.specs.Named.{named_requirements}
 use Rattle.requirement_names.specs.Wrong.{first_wrong}
-use Rattle.requirement_verdicts.specs.declared.verdict.Verdict.{Verdict}
-use Rattle.requirement_verdicts.specs.Verdicts.{IsVerdict}
+use Rattle.backward_slice.specs.declared.parts.Slice.{Slice}
+use Rattle.property_reader.specs.declared.rate.Rate.{Rate}
 use Rattle.requirement_lines.specs.declared.judgement.Judgement.{Judgement}
 use Rattle.requirement_lines.specs.declared.told.LineForm.{LineForm}
 use Rattle.requirement_lines.specs.declared.told.LineForm.TheVariants.{Plain, Tap}
-use Rattle.requirement_lines.specs.Lines.{are_met, verdicts_text}
+use Rattle.requirement_lines.specs.Rulings.{IsRulingOn, are_met}
+use Rattle.requirement_lines.specs.Lines.{verdicts_text}
 
 -- What a command writes, and whether it tells of no requirement that is not met.
 pub record Output : Type 0 where
@@ -82,25 +81,24 @@ placed_at at its = record { code = its.code; place = byte_place at; limit = its.
 abbrev pub HasLargeSliceAt : System → ℕ → ℕ → Refusal → Type 0
 HasLargeSliceAt system target at its = (large : Refusal) × HasLargeSlice system target large × (its ≡ placed_at at large)
 
--- the verdict on what a sentence says of a target; of a probability there is none, and it is refused by Q1, at the name of its requirement
-abbrev pub verdict_on : System → ℕ → ℕ → NamedSentence → Phase Verdict
-verdict_on system target at (OfSets sentence) = accepts (IsVerdict system target sentence)
-verdict_on system target at (Probability most hours) = computes (Err (refusal BadRequirement (byte_place at)))
+-- the slices of the targets of requirements, each in its turn
+abbrev pub slices_of : System → List NamedRequirement → Phase (List Slice)
+slices_of system [] = yields []
+slices_of system (named ∷ rest) = do
+  slice ← rejects (IsServed system named.target) (HasLargeSliceAt system named.target named.name.at)
+  slices ← slices_of system rest
+  yields (slice ∷ slices)
 
--- the judgement on a requirement
-abbrev pub judgement_of : System → NamedRequirement → Phase Judgement
-judgement_of system named = do
-  _ ← rejects (IsServed system named.target) (HasLargeSliceAt system named.target named.name.at)
-  verdict ← verdict_on system named.target named.name.at named.sentence
-  yields (record { name = named.name.text; verdict = verdict })
+-- A requirement whose target has this slice is judged so, where events have these rates: it has its name, and this is the verdict.
+pub record IsJudgement (system : System) (rates : List Rate) (named : NamedRequirement) (slice : Slice) (judgement : Judgement) : Type 0 where
+  pub name : judgement.name ≡ named.name.text
+  pub ruling : IsRulingOn system rates named.target slice.events named.sentence judgement.ruling
 
--- the judgements on requirements, each in its turn
-abbrev pub judgements_of : System → List NamedRequirement → Phase (List Judgement)
-judgements_of system [] = yields []
-judgements_of system (named ∷ rest) = do
-  judgement ← judgement_of system named
-  judgements ← judgements_of system rest
-  yields (judgement ∷ judgements)
+-- the same of all requirements, in their order
+abbrev pub AreJudgements : System → List Rate → List NamedRequirement → List Slice → List Judgement → Type 0
+AreJudgements system rates [] [] [] = ⊤
+AreJudgements system rates (named ∷ rest) (slice ∷ slices) (judgement ∷ judgements) = IsJudgement system rates named slice judgement × AreJudgements system rates rest slices judgements
+AreJudgements system rates _ _ _ = ⊥
 
 -- ---- what is told
 
@@ -113,10 +111,28 @@ line_form false = Plain
 abbrev pub told_output : LineForm → System → List Judgement → Output
 told_output form system judgements = record { text = verdicts_text form system judgements; met = are_met judgements }
 
--- what is told of the requirements of a text over a system
-abbrev pub required_text : Bool → List ℕ → System → Phase Output
-required_text tap text system = do
+-- An output tells the judgements on requirements.
+pub record TellsJudgements (form : LineForm) (system : System) (rates : List Rate) (named : List NamedRequirement) (slices : List Slice) (output : Output) : Type 0 where
+  pub judgements : List Judgement
+  pub judged : AreJudgements system rates named slices judgements
+  pub output_is : output ≡ told_output form system judgements
+
+-- what is made of the requirements of a text over a system: of those whose names are numbers, and of the slices of their targets
+abbrev pub required_by : {A : Type 0} → (List NamedRequirement → List Slice → A → Type 0) → List ℕ → System → Phase A
+required_by Is text system = do
   all ← computes (read_as (requirements_of text))
   named ← computes (named_of system all)
-  judgements ← judgements_of system named
-  yields (told_output (line_form tap) system judgements)
+  slices ← slices_of system named
+  accepts (Is named slices)
+
+-- what is told of the requirements of a text over a system whose events have these rates
+abbrev pub required_text : Bool → List ℕ → System → List Rate → Phase Output
+required_text tap text system rates = required_by (TellsJudgements (line_form tap) system rates) text system
+
+-- the text of an output that tells so
+abbrev pub TellsLines : Bool → System → List Rate → List NamedRequirement → List Slice → List ℕ → Type 0
+TellsLines tap system rates named slices lines = (output : Output) × TellsJudgements (line_form tap) system rates named slices output × (lines ≡ output.text)
+
+-- what is told as text alone
+abbrev pub required_lines : Bool → List ℕ → System → List Rate → Phase (List ℕ)
+required_lines tap text system rates = required_by (TellsLines tap system rates) text system

@@ -23,16 +23,16 @@ ghost use Rattle.system_answers.specs.Targets.{IsFactNamed};
 ghost use Rattle.system_answers.specs.Voices.{Voice};
 
 /// The words, the contents of the files, where these are told, and the reports give one output at most, unless they ask for a tree with
-/// merged gates, of which more than one may be made.
+/// merged gates, of which more than one may be made, or for a requirement on a probability, on which more than one verdict may be right.
 pub fn one_output()
-    ensures { (words : List (List ℕ)) (contents : List ℕ → Option (List ℕ)) (voices : List Voice) → AllTold words contents voices → AskForOneText words voices → (a b : Output) → IsOutput words contents voices a → IsOutput words contents voices b → a ≡ b }
+    ensures { (words : List (List ℕ)) (contents : List ℕ → Option (List ℕ)) (voices : List Voice) → AllTold words contents voices → AskForOneText words contents voices → (a b : Output) → IsOutput words contents voices a → IsOutput words contents voices b → a ≡ b }
 {}
 
 /// One end at most is due for the words, the contents of the files, where these are told, and the reports, but for the place of a
 /// syntax error: a text, or a status, as that there is no command, or a refusal. Of a tree with merged gates more than one text may be
 /// due, and then no status is.
 pub fn one_due()
-    ensures one { (words : List (List ℕ)) (contents : List ℕ → Option (List ℕ)) (voices : List Voice) → AllTold words contents voices → AskForOneText words voices
+    ensures one { (words : List (List ℕ)) (contents : List ℕ → Option (List ℕ)) (voices : List Voice) → AllTold words contents voices → AskForOneText words contents voices
         → (a b : Result Output AnyStatus) → IsDue (due words contents voices) a → IsDue (due words contents voices) b → IsSameEnd IsSameStatus a b }
     ensures alike { (words : List (List ℕ)) (contents : List ℕ → Option (List ℕ)) (voices : List Voice) → AllTold words contents voices
         → (a b : Result Output AnyStatus) → IsDue (due words contents voices) a → IsDue (due words contents voices) b → IsLikeEnd IsSameStatus a b }

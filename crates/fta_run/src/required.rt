@@ -9,7 +9,7 @@ ghost use Rattle.fta_run.specs.inner.Required.{status_of_fault, output_of};
 
 use crate::confirmed::later_model;
 use crate::input::Texts;
-use fault_system::FaultSystem;
+use model_phases::FlatModel;
 use phases::Status;
 use plain_values::{Code, Place, Refusal, Root};
 use profiles::Profile;
@@ -28,15 +28,21 @@ pub fn required(
     ensures { MeetsBut IsMemory output_of (required_in profile root.now tap texts) result }
 {
     let model = later_model(alloc, profile, root, 1, texts.others())?;
-    let told = told_over(alloc, &model.system, texts.first(), tap)?;
+    let told = told_over(alloc, &model, texts.first(), tap)?;
     Ok(told)
 }
 
-/// What is told of the requirements of a text over a system.
-fn told_over(alloc: Global, system: &FaultSystem, text: &[u8], tap: bool) -> Result<Told, Status>
-    ensures { MeetsBut IsMemory output_of (required_text tap text.now system.now) result }
+/// What is told of the requirements of a text over a model.
+fn told_over(alloc: Global, model: &FlatModel, text: &[u8], tap: bool) -> Result<Told, Status>
+    ensures { MeetsBut IsMemory output_of (required_text tap text.now model.now.system model.now.rates) result }
 {
-    match require(alloc, system, text, line_form(tap)) {
+    match require(
+        alloc,
+        &model.system,
+        model.rates.items(),
+        text,
+        line_form(tap),
+    ) {
         Ok(told) => Ok(told),
         Err(fault) => Err(status_of(fault)),
     }
@@ -61,7 +67,6 @@ fn status_of(fault: RequirementFault) -> Status
             Status::Refused(Refusal::new(Code::NoRequirement, Place::Whole(0)))
         }
         RequirementFault::TooLarge(refusal, at) => Status::Refused(placed_at(at, refusal)),
-        RequirementFault::Unserved(at) => refused_at(Code::BadRequirement, at),
     }
 }
 

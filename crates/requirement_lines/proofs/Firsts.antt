@@ -2,6 +2,7 @@
 use Rattle.std.proofs.Common.{ℕ, zero, suc, ◌+◌, ◌≡◌, ◌<◌, List, [], ◌∷◌, ◌++◌, length, take, drop, get_or, refl, sym, ap, subst, ◌∙◌, arith}
 use Rattle.std.specs.List.{AllByRecursion, AllZip}
 use Rattle.fault_system.specs.Systems.{System}
+use Rattle.property_reader.specs.declared.rate.Rate.{Rate}
 use Rattle.requirement_names.specs.declared.named.NamedRequirement.{NamedRequirement}
 use Rattle.requirement_lines.specs.declared.judgement.Judgement.{Judgement}
 use Rattle.requirement_lines.specs.declared.told.RequirementFault.{RequirementFault}
@@ -22,13 +23,13 @@ split-at (z ∷ xs) zero x within is = ap (λ y. y ∷ xs) (sym is)
 split-at (z ∷ xs) (suc i) x within is = ap (λ ys. z ∷ ys) (split-at xs i x (omega arith) is)
 
 -- each of two lists is judged
-pub each-judged : (system : System) (all : List NamedRequirement) (judgements : List Judgement) → AllZip (IsJudgedSo system) all judgements → AllByRecursion (CanBeJudged system) all
-each-judged system [] [] zip = tt
-each-judged system [] (j ∷ js) zip = absurd zip
-each-judged system (n ∷ ns) [] zip = absurd zip
-each-judged system (n ∷ ns) (j ∷ js) zip = ((j, zip.0), each-judged system ns js zip.1)
+pub each-judged : (system : System) (rates : List Rate) (all : List NamedRequirement) (judgements : List Judgement) → AllZip (IsJudgedSo system rates) all judgements → AllByRecursion (CanBeJudged system rates) all
+each-judged system rates [] [] zip = tt
+each-judged system rates [] (j ∷ js) zip = absurd zip
+each-judged system rates (n ∷ ns) [] zip = absurd zip
+each-judged system rates (n ∷ ns) (j ∷ js) zip = ((j, zip.0), each-judged system rates ns js zip.1)
 
-pub first-unjudged : (system : System) (all : List NamedRequirement) (judgements : List Judgement) (i : ℕ) (one : NamedRequirement) (fault : RequirementFault) → i < length all → one ≡ get_or all i one → AllZip (IsJudgedSo system) (take i all) judgements
-    → IsUnjudged system one fault → IsFirstUnjudged system all fault
-first-unjudged system all judgements i one fault within is zip here =
-    record { front = take i all; one = one; rest = drop (suc i) all; whole = split-at all i one within is; before = each-judged system (take i all) judgements zip; here = here }
+pub first-unjudged : (system : System) (rates : List Rate) (all : List NamedRequirement) (judgements : List Judgement) (i : ℕ) (one : NamedRequirement) (fault : RequirementFault) → i < length all → one ≡ get_or all i one → AllZip (IsJudgedSo system rates) (take i all) judgements
+    → IsUnjudged system one fault → IsFirstUnjudged system rates all fault
+first-unjudged system rates all judgements i one fault within is zip here =
+    record { front = take i all; one = one; rest = drop (suc i) all; whole = split-at all i one within is; before = each-judged system rates (take i all) judgements zip; here = here }

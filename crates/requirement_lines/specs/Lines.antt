@@ -1,62 +1,61 @@
 -- The lines that tell verdicts on requirements.
-use Rattle.std.specs.Prelude.{ℕ, ◌+◌, ◌==◌, ◌||◌, Bool, true, false, List, [], ◌∷◌, ◌++◌, codes, cond, decimal, length, filter}
-use Rattle.std.specs.List.{flat_map, list_all}
-use Rattle.fault_system.specs.Systems.{System}
+use Rattle.std.specs.Prelude.{ℕ, ◌+◌, ◌==◌, ◌||◌, Bool, List, [], ◌∷◌, ◌++◌, Option, None, Some, codes, cond, decimal, length, filter}
+use Rattle.std.specs.List.{flat_map}
+use Rattle.fault_system.specs.Systems.{System, event_name}
 use Rattle.cutset_lister.specs.SetText.{set_text}
 use Rattle.requirement_verdicts.specs.declared.verdict.Verdict.{Verdict}
-use Rattle.requirement_verdicts.specs.declared.verdict.Verdict.TheVariants.{Met, Vacuous, Broken, Stale}
+use Rattle.requirement_verdicts.specs.declared.verdict.Verdict.TheVariants as sets
+use Rattle.probability_verdicts.specs.declared.verdict.ProbabilityVerdict.{ProbabilityVerdict}
+use Rattle.probability_verdicts.specs.declared.verdict.ProbabilityVerdict.TheVariants as probability
+use Rattle.requirement_lines.specs.declared.ruling.Ruling.{Ruling}
+use Rattle.requirement_lines.specs.declared.ruling.Ruling.TheVariants.{OfSets, OfProbability}
+use Rattle.requirement_lines.specs.declared.ruling.Mark.{Mark}
+use Rattle.requirement_lines.specs.declared.ruling.Mark.TheVariants.{Met, Broken, Vacuous}
 use Rattle.requirement_lines.specs.declared.judgement.Judgement.{Judgement}
 use Rattle.requirement_lines.specs.declared.told.LineForm.{LineForm}
 use Rattle.requirement_lines.specs.declared.told.LineForm.TheVariants.{Plain, Tap}
-
--- whether a verdict is that a requirement is met
-abbrev pub is_met : Verdict → Bool
-is_met Met = true
-is_met Vacuous = false
-is_met (Broken set) = false
-is_met (Stale set) = false
-
--- whether it is that a requirement is broken, by a set or by an exception that is stale
-abbrev pub is_broken : Verdict → Bool
-is_broken Met = false
-is_broken Vacuous = false
-is_broken (Broken set) = true
-is_broken (Stale set) = true
-
--- whether it is that a requirement is vacuous
-abbrev pub is_vacuous : Verdict → Bool
-is_vacuous Met = false
-is_vacuous Vacuous = true
-is_vacuous (Broken set) = false
-is_vacuous (Stale set) = false
-
--- whether all requirements are met
-abbrev pub are_met : List Judgement → Bool
-are_met judgements = list_all (λ judgement. is_met judgement.verdict) judgements
+use Rattle.requirement_lines.specs.Rulings.{is_broken, is_met, is_vacuous, mark_of}
 
 -- the set that breaks a requirement, or its exception that is stale, behind the rest of a line
 abbrev pub verdict_set : System → Verdict → List ℕ
-verdict_set system Met = []
-verdict_set system Vacuous = []
-verdict_set system (Broken set) = codes " " ++ set_text system set
-verdict_set system (Stale set) = codes " except " ++ set_text system set
+verdict_set system sets.Met = []
+verdict_set system sets.Vacuous = []
+verdict_set system (sets.Broken set) = codes " " ++ set_text system set
+verdict_set system (sets.Stale set) = codes " except " ++ set_text system set
+
+-- an event without a probability, if there is one, behind the rest of a line
+abbrev pub unrated_text : System → Option ℕ → List ℕ
+unrated_text system None = []
+unrated_text system (Some event) = codes " unrated " ++ event_name system event
+
+-- the upper bound of a probability that is not as small, behind the rest of a line; or that there is none; the target may hold anyway
+abbrev pub verdict_bound : System → ProbabilityVerdict → List ℕ
+verdict_bound system probability.Met = []
+verdict_bound system probability.Vacuous = []
+verdict_bound system probability.Anyway = codes " none"
+verdict_bound system (probability.Above bound event) = codes " at-most " ++ (bound ++ unrated_text system event)
+verdict_bound system probability.Large = codes " large"
+
+-- what breaks a requirement, behind the rest of a line
+abbrev pub reason_text : System → Ruling → List ℕ
+reason_text system (OfSets verdict) = verdict_set system verdict
+reason_text system (OfProbability verdict) = verdict_bound system verdict
 
 -- ---- lines
 
 -- the word with which the line of a requirement begins
-abbrev pub verdict_word : Verdict → List ℕ
+abbrev pub verdict_word : Mark → List ℕ
 verdict_word Met = codes "met "
+verdict_word Broken = codes "broken "
 verdict_word Vacuous = codes "vacuous "
-verdict_word (Broken set) = codes "broken "
-verdict_word (Stale set) = codes "broken "
 
 -- the line of a requirement
 abbrev pub verdict_line : System → Judgement → List ℕ
-verdict_line system judgement = verdict_word judgement.verdict ++ (judgement.name ++ (verdict_set system judgement.verdict ++ codes "\n"))
+verdict_line system judgement = verdict_word (mark_of judgement.ruling) ++ (judgement.name ++ (reason_text system judgement.ruling ++ codes "\n"))
 
--- of how many requirements the verdict is such
-abbrev pub count_of : (Verdict → Bool) → List Judgement → ℕ
-count_of is_such judgements = length (filter (λ judgement. is_such judgement.verdict) judgements)
+-- of how many requirements the verdict comes to such a mark
+abbrev pub count_of : (Mark → Bool) → List Judgement → ℕ
+count_of is_such judgements = length (filter (λ judgement. is_such (mark_of judgement.ruling)) judgements)
 
 -- the last line: how many requirements are met, broken and vacuous
 abbrev pub end_line : List Judgement → List ℕ
@@ -70,18 +69,16 @@ plain_text system judgements = flat_map (verdict_line system) judgements ++ end_
 -- ---- the same as TAP 13
 
 -- the word with which the line of a requirement begins
-abbrev pub tap_word : Verdict → List ℕ
+abbrev pub tap_word : Mark → List ℕ
 tap_word Met = codes "ok "
+tap_word Broken = codes "not ok "
 tap_word Vacuous = codes "not ok "
-tap_word (Broken set) = codes "not ok "
-tap_word (Stale set) = codes "not ok "
 
 -- what is said behind its name
-abbrev pub tap_reason : Verdict → List ℕ
+abbrev pub tap_reason : Mark → List ℕ
 tap_reason Met = []
+tap_reason Broken = codes " broken"
 tap_reason Vacuous = codes " vacuous"
-tap_reason (Broken set) = codes " broken"
-tap_reason (Stale set) = codes " broken"
 
 -- `#` would begin a directive, by which a test that fails may count as one that is left out; so it stands behind `\`, as `\` itself does
 abbrev pub escaped_byte : ℕ → List ℕ
@@ -93,11 +90,11 @@ escaped text = flat_map escaped_byte text
 
 -- what is said of a requirement: its name, and why it is not met
 abbrev pub description : System → Judgement → List ℕ
-description system judgement = judgement.name ++ (tap_reason judgement.verdict ++ verdict_set system judgement.verdict)
+description system judgement = judgement.name ++ (tap_reason (mark_of judgement.ruling) ++ reason_text system judgement.ruling)
 
 -- the line of a requirement of this number
 abbrev pub tap_line : System → ℕ → Judgement → List ℕ
-tap_line system number judgement = tap_word judgement.verdict ++ (decimal number ++ (codes " - " ++ (escaped (description system judgement) ++ codes "\n")))
+tap_line system number judgement = tap_word (mark_of judgement.ruling) ++ (decimal number ++ (codes " - " ++ (escaped (description system judgement) ++ codes "\n")))
 
 -- the lines of requirements from this number on
 abbrev pub tap_lines : System → ℕ → List Judgement → List ℕ

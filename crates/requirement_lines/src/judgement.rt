@@ -1,9 +1,9 @@
+use crate::ruling::Ruling;
 use plain_values::Name;
-use requirement_verdicts::Verdict;
 
 /// The verdict on a requirement, and the name of this as the text has it.
 #[derive(Drop)]
 pub struct Judgement {
     pub name: Name,
-    pub verdict: Verdict,
+    pub ruling: Ruling,
 }

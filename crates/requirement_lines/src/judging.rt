@@ -4,27 +4,35 @@ ghost use Rattle.std.specs.Prelude.{◌≡◌, ◌<◌, ◌↔◌, ℕ, IfErr, I
 ghost use Rattle.std.specs.List.{AllByRecursion, AllZip};
 ghost use Rattle.fault_system.specs.Truth.{Has, member};
 ghost use Rattle.backward_slice.specs.Slices.{IsServed, IsSlice};
-ghost use Rattle.requirement_names.specs.inner.Named.{FitsModel, FitsSets};
-ghost use Rattle.requirement_names.specs.declared.named.NamedSentence.TheVariants.{OfSets};
+ghost use Rattle.requirement_names.specs.inner.Named.{FitsModel, FitsSentence, FitsSets};
+ghost use Rattle.requirement_names.specs.declared.named.NamedSentence.TheVariants.{OfSets, Probability};
 ghost use Rattle.requirement_verdicts.specs.Meanings.{HoldsAnyway, MayHold};
 ghost use Rattle.requirement_verdicts.specs.Verdicts.{IsVerdict};
+ghost use Rattle.probability_verdicts.specs.Verdicts.{IsProbabilityVerdict};
+ghost use Rattle.requirement_lines.specs.Rulings.{IsRulingOn};
 ghost use Rattle.requirement_lines.specs.inner.Judged.{AreUnjudged, IsJudgedSo, IsLarge, IsUnjudged, KnowsFacts};
 
 use crate::judgement::Judgement;
+use crate::ruling::Ruling;
 use crate::told::RequirementFault;
 use backward_slice::{Slice, slice};
 use dependency_blocks::blocks;
 use fault_system::{Bits, FaultSystem};
 use forbidden_sets::{Judged, first_forbidden};
 use plain_values::{List, Mem, Stop, copied};
+use probability_verdicts::{ProbabilityVerdict, early_probability, late_probability};
+use property_reader::Rate;
 use requirement_names::{NamedRequirement, NamedSentence, SetSentence};
 use requirement_verdicts::{Verdict, early_verdict, late_verdict};
+use requirements::PlacedWord;
 use std::alloc::Global;
 use zdd_store::Store;
 
-/// What is known of the facts of a system.
+/// What is known of a system.
 #[derive(Clone, Copy)]
 pub(crate) struct Known<'a> {
+    /// The rates of its events.
+    pub rates: &'a [Rate],
     /// The facts that hold under no event.
     pub always: &'a Bits,
     /// The facts that hold under some events.
@@ -35,15 +43,17 @@ pub(crate) struct Known<'a> {
 pub(crate) fn all_judged(
     alloc: Global,
     system: &FaultSystem,
+    rates: &[Rate],
     all: &[NamedRequirement],
 ) -> Result<List<Judgement>, RequirementFault>
     requires { AllByRecursion (FitsModel system.now) all.now }
-    ensures judged { IfOk result (λ judgements. AllZip (IsJudgedSo system.now) all.now judgements) }
-    ensures unjudged { IfErr result (AreUnjudged system.now all.now) }
+    ensures judged { IfOk result (λ judgements. AllZip (IsJudgedSo system.now rates.now) all.now judgements) }
+    ensures unjudged { IfErr result (AreUnjudged system.now rates.now all.now) }
 {
     let always = anyway_facts(alloc, system)?;
     let perhaps = possible_facts(alloc, system)?;
     let known = Known {
+        rates,
         always: &always,
         perhaps: &perhaps,
     };
@@ -90,8 +100,8 @@ fn each_judged(
 ) -> Result<List<Judgement>, RequirementFault>
     requires fits { AllByRecursion (FitsModel system.now) all.now }
     requires known { KnowsFacts system.now known.now }
-    ensures judged { IfOk result (λ judgements. AllZip (IsJudgedSo system.now) all.now judgements) }
-    ensures unjudged { IfErr result (AreUnjudged system.now all.now) }
+    ensures judged { IfOk result (λ judgements. AllZip (IsJudgedSo system.now known.now.rates.now) all.now judgements) }
+    ensures unjudged { IfErr result (AreUnjudged system.now known.now.rates.now all.now) }
 {
     let mut judgements = List::new(alloc);
     for named in all {
@@ -110,7 +120,7 @@ fn judge(
 ) -> Result<Judgement, RequirementFault>
     requires fits { FitsModel system.now named.now }
     requires known { KnowsFacts system.now known.now }
-    ensures judged { IfOk result (IsJudgedSo system.now named.now) }
+    ensures judged { IfOk result (IsJudgedSo system.now known.now.rates.now named.now) }
     ensures unjudged { IfErr result (IsUnjudged system.now named.now) }
 {
     match slice_for(alloc, system, named.target, named.name.at) {
@@ -130,34 +140,90 @@ fn judge_part(
     requires slice { IsServed system.now named.now.target part.now }
     requires fits { FitsModel system.now named.now }
     requires known { KnowsFacts system.now known.now }
-    ensures judged { IfOk result (IsJudgedSo system.now named.now) }
+    ensures judged { IfOk result (IsJudgedSo system.now known.now.rates.now named.now) }
     ensures unjudged { IfErr result (IsUnjudged system.now named.now) }
 {
-    match &named.sentence {
-        NamedSentence::OfSets(sentence) => judge_sets(alloc, system, known, part, named, sentence),
-        NamedSentence::Probability(_, _) => Err(RequirementFault::Unserved(named.name.at)),
-    }
+    let name = copied(alloc, named.name.text.items())?;
+    let ruling = ruling_on(alloc, system, known, part, &named.sentence)?;
+    Ok(Judgement { name, ruling })
 }
 
-/// The verdict on a requirement whose target has this slice and whose sentence is this.
-fn judge_sets(
+/// The verdict on what a sentence says of the target of a slice.
+fn ruling_on(
     alloc: Global,
     system: &FaultSystem,
     known: &Known<'_>,
     part: &Slice,
-    named: &NamedRequirement,
+    sentence: &NamedSentence,
+) -> Mem<Ruling>
+    requires slice { IsSlice system.now part.now.target part.now }
+    requires fits { FitsSentence system.now sentence.now }
+    requires known { KnowsFacts system.now known.now }
+    ensures { IfOk result (IsRulingOn system.now known.now.rates.now part.now.target part.now.events sentence.now) }
+{
+    match sentence {
+        NamedSentence::OfSets(sentence) => sets_ruling(alloc, system, known, part, sentence),
+        NamedSentence::Probability(most, hours) => {
+            probability_ruling(alloc, system, known, part, most, hours)
+        }
+    }
+}
+
+/// The same, where the sentence speaks of sets of events.
+fn sets_ruling(
+    alloc: Global,
+    system: &FaultSystem,
+    known: &Known<'_>,
+    part: &Slice,
     sentence: &SetSentence,
-) -> Result<Judgement, RequirementFault>
-    requires slice { IsServed system.now named.now.target part.now }
+) -> Mem<Ruling>
+    requires slice { IsSlice system.now part.now.target part.now }
     requires fits { FitsSets system.now sentence.now }
     requires known { KnowsFacts system.now known.now }
-    requires says { named.now.sentence ≡ OfSets sentence.now }
-    ensures judged { IfOk result (IsJudgedSo system.now named.now) }
-    ensures unjudged { IfErr result (IsUnjudged system.now named.now) }
+    ensures { IfOk result (IsRulingOn system.now known.now.rates.now part.now.target part.now.events (OfSets sentence.now)) }
 {
-    let name = copied(alloc, named.name.text.items())?;
     let verdict = verdict_on(alloc, system, known, part, sentence)?;
-    Ok(Judgement { name, verdict })
+    Ok(Ruling::OfSets(verdict))
+}
+
+/// The same, where it speaks of a probability within so many hours.
+fn probability_ruling(
+    alloc: Global,
+    system: &FaultSystem,
+    known: &Known<'_>,
+    part: &Slice,
+    most: &PlacedWord,
+    hours: &PlacedWord,
+) -> Mem<Ruling>
+    requires slice { IsSlice system.now part.now.target part.now }
+    requires known { KnowsFacts system.now known.now }
+    ensures { IfOk result (IsRulingOn system.now known.now.rates.now part.now.target part.now.events (Probability most.now hours.now)) }
+{
+    let verdict = verdict_within(alloc, system, known, part, most, hours)?;
+    Ok(Ruling::OfProbability(verdict))
+}
+
+/// The verdict on the requirement that the target of a slice is at most as probable as this number says, within so many hours.
+fn verdict_within(
+    alloc: Global,
+    system: &FaultSystem,
+    known: &Known<'_>,
+    part: &Slice,
+    most: &PlacedWord,
+    hours: &PlacedWord,
+) -> Mem<ProbabilityVerdict>
+    requires slice { IsSlice system.now part.now.target part.now }
+    requires known { KnowsFacts system.now known.now }
+    ensures { IfOk result (IsProbabilityVerdict system.now known.now.rates.now part.now.target part.now.events most.now.text hours.now.text) }
+{
+    let anyway = known.always.has(part.target);
+    let possible = known.perhaps.has(part.target);
+    if let Some(verdict) = early_probability(anyway, possible) {
+        return Ok(verdict);
+    }
+    let number = most.text.items();
+    let time = hours.text.items();
+    late_probability(alloc, system, known.rates, part, number, time)
 }
 
 /// The slice of the target of a requirement whose name stands at this place.

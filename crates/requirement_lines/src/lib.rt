@@ -5,10 +5,12 @@ mod judgement;
 mod judging;
 mod lines;
 mod requiring;
+mod ruling;
 mod tap;
 mod told;
 
 pub use judgement::Judgement;
 pub use lines::verdicts_text;
 pub use requiring::require;
+pub use ruling::{Mark, Ruling};
 pub use told::{LineForm, RequirementFault, Told};

@@ -3,15 +3,18 @@
 ghost use Rattle.std.specs.Prelude.{◌≡◌, ◌++◌, IfOk, OnOk, codes, decimal, filter, length};
 ghost use Rattle.std.specs.List.{flat_map};
 ghost use Rattle.cutset_lister.specs.SetText.{set_text};
-ghost use Rattle.requirement_lines.specs.Lines.{are_met, count_of, end_line, is_broken, is_met, is_vacuous, plain_text, verdict_line, verdict_set, verdict_word, verdicts_text};
+ghost use Rattle.requirement_lines.specs.Rulings.{are_met, is_broken, is_met, is_vacuous};
+ghost use Rattle.requirement_lines.specs.Lines.{count_of, end_line, plain_text, reason_text, unrated_text, verdict_bound, verdict_line, verdict_set, verdict_word, verdicts_text};
 
 use crate::judgement::Judgement;
+use crate::ruling::{Mark, Ruling, is_broken, is_met, is_vacuous, mark_of};
 use crate::tap::push_tap;
 use crate::told::LineForm;
 use cutset_lister::write_token;
 use fault_system::FaultSystem;
 use itoa::Buffer;
 use plain_values::Mem;
+use probability_verdicts::ProbabilityVerdict;
 use requirement_verdicts::Verdict;
 use std::alloc::Global;
 
@@ -55,27 +58,36 @@ fn push_lines(text: &mut Vec<u8>, system: &FaultSystem, judgements: &[Judgement]
 fn push_line(text: &mut Vec<u8>, system: &FaultSystem, judgement: &Judgement) -> Mem<()>
     ensures { OnOk result (text.new.items ≡ text.old.items ++ verdict_line system.now judgement.now) }
 {
-    text.extend_from_slice(verdict_word(&judgement.verdict))?;
+    text.extend_from_slice(verdict_word(mark_of(&judgement.ruling)))?;
     text.extend_from_slice(judgement.name.items())?;
-    push_set(text, system, &judgement.verdict)?;
+    push_reason(text, system, &judgement.ruling)?;
     text.push(b'\n')?;
     Ok(())
 }
 
 /// The word with which the line of a requirement begins.
-fn verdict_word(verdict: &Verdict) -> &'static [u8]
-    ensures { result.now ≡ verdict_word verdict.now }
+fn verdict_word(mark: Mark) -> &'static [u8]
+    ensures { result.now ≡ verdict_word mark }
 {
-    match verdict {
-        Verdict::Met => b"met ",
-        Verdict::Vacuous => b"vacuous ",
-        Verdict::Broken(_) => b"broken ",
-        Verdict::Stale(_) => b"broken ",
+    match mark {
+        Mark::Met => b"met ",
+        Mark::Broken => b"broken ",
+        Mark::Vacuous => b"vacuous ",
+    }
+}
+
+/// Adds what breaks a requirement.
+pub(crate) fn push_reason(text: &mut Vec<u8>, system: &FaultSystem, ruling: &Ruling) -> Mem<()>
+    ensures { OnOk result (text.new.items ≡ text.old.items ++ reason_text system.now ruling.now) }
+{
+    match ruling {
+        Ruling::OfSets(verdict) => push_set(text, system, verdict),
+        Ruling::OfProbability(verdict) => push_bound(text, system, verdict),
     }
 }
 
 /// Adds the set that breaks a requirement, or its exception that is stale.
-pub(crate) fn push_set(text: &mut Vec<u8>, system: &FaultSystem, verdict: &Verdict) -> Mem<()>
+fn push_set(text: &mut Vec<u8>, system: &FaultSystem, verdict: &Verdict) -> Mem<()>
     ensures { OnOk result (text.new.items ≡ text.old.items ++ verdict_set system.now verdict.now) }
 {
     match verdict {
@@ -84,6 +96,53 @@ pub(crate) fn push_set(text: &mut Vec<u8>, system: &FaultSystem, verdict: &Verdi
         Verdict::Broken(set) => push_token(text, b" ", system, set.items()),
         Verdict::Stale(set) => push_token(text, b" except ", system, set.items()),
     }
+}
+
+/// Adds the upper bound of a probability that is not as small, or that there is none.
+fn push_bound(text: &mut Vec<u8>, system: &FaultSystem, verdict: &ProbabilityVerdict) -> Mem<()>
+    ensures { OnOk result (text.new.items ≡ text.old.items ++ verdict_bound system.now verdict.now) }
+{
+    match verdict {
+        ProbabilityVerdict::Met => Ok(()),
+        ProbabilityVerdict::Vacuous => Ok(()),
+        ProbabilityVerdict::Anyway => push_word(text, b" none"),
+        ProbabilityVerdict::Above(bound, event) => push_above(text, system, bound.items(), *event),
+        ProbabilityVerdict::Large => push_word(text, b" large"),
+    }
+}
+
+/// Adds the upper bound of a probability, and an event without one, if there is one.
+fn push_above(text: &mut Vec<u8>, system: &FaultSystem, bound: &[u8], event: Option<u32>) -> Mem<()>
+    ensures { OnOk result (text.new.items ≡ text.old.items ++ (codes " at-most " ++ (bound.now ++ unrated_text system.now event))) }
+{
+    push_name(text, b" at-most ", bound)?;
+    push_unrated(text, system, event)
+}
+
+/// Adds an event without a probability, if there is one.
+fn push_unrated(text: &mut Vec<u8>, system: &FaultSystem, event: Option<u32>) -> Mem<()>
+    ensures { OnOk result (text.new.items ≡ text.old.items ++ unrated_text system.now event) }
+{
+    match event {
+        None => Ok(()),
+        Some(event) => push_name(text, b" unrated ", system.event_name(event)),
+    }
+}
+
+/// Adds a word and a name.
+fn push_name(text: &mut Vec<u8>, word: &[u8], name: &[u8]) -> Mem<()>
+    ensures { OnOk result (text.new.items ≡ text.old.items ++ (word.now ++ name.now)) }
+{
+    text.extend_from_slice(word)?;
+    push_word(text, name)
+}
+
+/// Adds a word.
+fn push_word(text: &mut Vec<u8>, word: &[u8]) -> Mem<()>
+    ensures { OnOk result (text.new.items ≡ text.old.items ++ word.now) }
+{
+    text.extend_from_slice(word)?;
+    Ok(())
 }
 
 /// Adds a word and the text of a set.
@@ -120,7 +179,7 @@ fn count_met(judgements: &[Judgement]) -> usize
 {
     judgements
         .iter()
-        .filter(|judgement| is_met(&judgement.verdict))
+        .filter(|judgement| is_met(mark_of(&judgement.ruling)))
         .count()
 }
 
@@ -129,7 +188,7 @@ fn count_broken(judgements: &[Judgement]) -> usize
 {
     judgements
         .iter()
-        .filter(|judgement| is_broken(&judgement.verdict))
+        .filter(|judgement| is_broken(mark_of(&judgement.ruling)))
         .count()
 }
 
@@ -138,7 +197,7 @@ fn count_vacuous(judgements: &[Judgement]) -> usize
 {
     judgements
         .iter()
-        .filter(|judgement| is_vacuous(&judgement.verdict))
+        .filter(|judgement| is_vacuous(mark_of(&judgement.ruling)))
         .count()
 }
 
@@ -148,38 +207,5 @@ pub(crate) fn are_met(judgements: &[Judgement]) -> bool
 {
     judgements
         .iter()
-        .all(|judgement| is_met(&judgement.verdict))
-}
-
-fn is_met(verdict: &Verdict) -> bool
-    ensures { result ≡ is_met verdict.now }
-{
-    match verdict {
-        Verdict::Met => true,
-        Verdict::Vacuous => false,
-        Verdict::Broken(_) => false,
-        Verdict::Stale(_) => false,
-    }
-}
-
-fn is_broken(verdict: &Verdict) -> bool
-    ensures { result ≡ is_broken verdict.now }
-{
-    match verdict {
-        Verdict::Met => false,
-        Verdict::Vacuous => false,
-        Verdict::Broken(_) => true,
-        Verdict::Stale(_) => true,
-    }
-}
-
-fn is_vacuous(verdict: &Verdict) -> bool
-    ensures { result ≡ is_vacuous verdict.now }
-{
-    match verdict {
-        Verdict::Met => false,
-        Verdict::Vacuous => true,
-        Verdict::Broken(_) => false,
-        Verdict::Stale(_) => false,
-    }
+        .all(|judgement| is_met(mark_of(&judgement.ruling)))
 }

@@ -6,7 +6,8 @@ ghost use Rattle.requirements.specs.Requirements.{requirements_of};
 ghost use Rattle.requirement_names.specs.inner.Named.{AreNamed, FitsModel};
 ghost use Rattle.requirement_lines.specs.declared.told.RequirementFault.TheVariants.{Memory};
 ghost use Rattle.requirement_lines.specs.inner.Judged.{IsMisnamedSo, IsMisread, IsRefusedFor, Says, TellsRequirements};
-ghost use Rattle.requirement_lines.specs.Lines.{are_met, verdicts_text};
+ghost use Rattle.requirement_lines.specs.Rulings.{are_met};
+ghost use Rattle.requirement_lines.specs.Lines.{verdicts_text};
 
 use crate::judgement::Judgement;
 use crate::judging::all_judged;
@@ -14,26 +15,27 @@ use crate::lines::{are_met, verdicts_text};
 use crate::told::{LineForm, RequirementFault, Told};
 use fault_system::FaultSystem;
 use plain_values::List;
+use property_reader::Rate;
 use requirement_names::{NameFault, NamedRequirement, named_fit, resolved};
 use requirements::{Fault, Requirements, requirements_of};
 use std::alloc::Global;
 
-/// What is told of a text of requirements over a system: a line for each, whether it is met, broken or vacuous, and whether each is met.
+/// What is told of a text of requirements over a system whose events have these rates: a line for each, whether it is met, broken or vacuous, and whether each is met.
 ///
 /// It is refused with the place of a word that is wrong (Q1), with the first name that is wrong (Q3 to Q7), where there is no requirement
-/// (Q2), and with the first requirement that is not judged, since the slice of its target is too large (M10, M11) or it is on a
-/// probability.
+/// (Q2), and with the first requirement that is not judged, since the slice of its target is too large (M10, M11).
 pub fn require(
     alloc: Global,
     system: &FaultSystem,
+    rates: &[Rate],
     text: &[u8],
     form: LineForm,
 ) -> Result<Told, RequirementFault>
-    ensures told { IfOk result (TellsRequirements system.now text.now form) }
-    ensures refused { IfErr result (IsRefusedFor system.now text.now) }
+    ensures told { IfOk result (TellsRequirements system.now rates.now text.now form) }
+    ensures refused { IfErr result (IsRefusedFor system.now rates.now text.now) }
 {
     match read(alloc, text) {
-        Ok(all) => told_of(alloc, system, &all, form),
+        Ok(all) => told_of(alloc, system, rates, &all, form),
         Err(fault) => Err(fault),
     }
 }
@@ -42,15 +44,16 @@ pub fn require(
 fn told_of(
     alloc: Global,
     system: &FaultSystem,
+    rates: &[Rate],
     all: &Requirements,
     form: LineForm,
 ) -> Result<Told, RequirementFault>
-    ensures told { (text : Items ℕ) → requirements_of text ≡ Ok all.now → IfOk result (TellsRequirements system.now text form) }
-    ensures refused { (text : Items ℕ) → requirements_of text ≡ Ok all.now → IfErr result (IsRefusedFor system.now text) }
+    ensures told { (text : Items ℕ) → requirements_of text ≡ Ok all.now → IfOk result (TellsRequirements system.now rates.now text form) }
+    ensures refused { (text : Items ℕ) → requirements_of text ≡ Ok all.now → IfErr result (IsRefusedFor system.now rates.now text) }
 {
     named_fit();
     match named(alloc, system, all) {
-        Ok(named) => told_named(alloc, system, named.items(), form),
+        Ok(named) => told_named(alloc, system, rates, named.items(), form),
         Err(fault) => Err(fault),
     }
 }
@@ -59,14 +62,15 @@ fn told_of(
 fn told_named(
     alloc: Global,
     system: &FaultSystem,
+    rates: &[Rate],
     named: &[NamedRequirement],
     form: LineForm,
 ) -> Result<Told, RequirementFault>
     requires { AllByRecursion (FitsModel system.now) named.now }
-    ensures told { (text : Items ℕ) → Says system.now text named.now → IfOk result (TellsRequirements system.now text form) }
-    ensures refused { (text : Items ℕ) → Says system.now text named.now → IfErr result (IsRefusedFor system.now text) }
+    ensures told { (text : Items ℕ) → Says system.now text named.now → IfOk result (TellsRequirements system.now rates.now text form) }
+    ensures refused { (text : Items ℕ) → Says system.now text named.now → IfErr result (IsRefusedFor system.now rates.now text) }
 {
-    match all_judged(alloc, system, named) {
+    match all_judged(alloc, system, rates, named) {
         Ok(judgements) => told_lines(alloc, system, judgements.items(), form),
         Err(fault) => Err(fault),
     }

@@ -4,10 +4,10 @@ ghost use Rattle.std.specs.Prelude.{◌≡◌, ◌+◌, ◌++◌, ◌≤◌, OnO
 ghost use Rattle.requirement_lines.specs.Lines.{description, escaped, escaped_byte, tap_line, tap_lines, tap_reason, tap_text, tap_word};
 
 use crate::judgement::Judgement;
-use crate::lines::{push_count, push_set};
+use crate::lines::{push_count, push_reason};
+use crate::ruling::{Mark, mark_of};
 use fault_system::FaultSystem;
 use plain_values::Mem;
-use requirement_verdicts::Verdict;
 use std::alloc::Global;
 
 /// Adds the version, the plan, and a line for each requirement.
@@ -49,7 +49,7 @@ fn push_test(
 ) -> Mem<()>
     ensures { OnOk result (text.new.items ≡ text.old.items ++ tap_line system.now number judgement.now) }
 {
-    push_count(text, tap_word(&judgement.verdict), number)?;
+    push_count(text, tap_word(mark_of(&judgement.ruling)), number)?;
     text.extend_from_slice(b" - ")?;
     let description = described(alloc, system, judgement)?;
     push_escaped(text, description.as_slice())?;
@@ -58,26 +58,24 @@ fn push_test(
 }
 
 /// The word with which the line of a requirement begins.
-fn tap_word(verdict: &Verdict) -> &'static [u8]
-    ensures { result.now ≡ tap_word verdict.now }
+fn tap_word(mark: Mark) -> &'static [u8]
+    ensures { result.now ≡ tap_word mark }
 {
-    match verdict {
-        Verdict::Met => b"ok ",
-        Verdict::Vacuous => b"not ok ",
-        Verdict::Broken(_) => b"not ok ",
-        Verdict::Stale(_) => b"not ok ",
+    match mark {
+        Mark::Met => b"ok ",
+        Mark::Broken => b"not ok ",
+        Mark::Vacuous => b"not ok ",
     }
 }
 
 /// What is said behind the name of a requirement.
-fn tap_reason(verdict: &Verdict) -> &'static [u8]
-    ensures { result.now ≡ tap_reason verdict.now }
+fn tap_reason(mark: Mark) -> &'static [u8]
+    ensures { result.now ≡ tap_reason mark }
 {
-    match verdict {
-        Verdict::Met => b"",
-        Verdict::Vacuous => b" vacuous",
-        Verdict::Broken(_) => b" broken",
-        Verdict::Stale(_) => b" broken",
+    match mark {
+        Mark::Met => b"",
+        Mark::Broken => b" broken",
+        Mark::Vacuous => b" vacuous",
     }
 }
 
@@ -86,8 +84,8 @@ fn described(alloc: Global, system: &FaultSystem, judgement: &Judgement) -> Mem<
     ensures { IfOk result (λ text. text.items ≡ description system.now judgement.now) }
 {
     let mut text = Vec::from_slice(alloc, judgement.name.items())?;
-    text.extend_from_slice(tap_reason(&judgement.verdict))?;
-    push_set(&mut text, system, &judgement.verdict)?;
+    text.extend_from_slice(tap_reason(mark_of(&judgement.ruling)))?;
+    push_reason(&mut text, system, &judgement.ruling)?;
     Ok(text)
 }
 

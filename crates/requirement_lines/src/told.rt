@@ -34,8 +34,6 @@ pub enum RequirementFault {
     NoRequirement,
     /// M10 or M11: the slice of a target is too large; the name of the requirement stands at this place.
     TooLarge(Refusal, usize),
-    /// The requirement whose name stands at this place is on a probability, which is not served yet.
-    Unserved(usize),
 }
 
 impl From<AllocError> for RequirementFault {

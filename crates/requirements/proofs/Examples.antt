@@ -62,5 +62,12 @@ one_too_many = refl
 no_hours : requirements_of (codes "R t probability 1e-9 days 10") ≡ Err 21
 no_hours = refl
 
+-- a probability of 1 or more asks nothing, and neither do no hours
+too_probable : requirements_of (codes "R t probability 1e9 hours 10") ≡ Err 16
+too_probable = refl
+
+no_time : requirements_of (codes "R t probability 1e-9 hours 0.0") ≡ Err 27
+no_time = refl
+
 no_member : requirements_of (codes "events g") ≡ Err 7
 no_member = refl

@@ -1,6 +1,7 @@
 -- The sentences of requirements, from their words.
 use Rattle.std.specs.Prelude.{ℕ, ◌*◌, ◌+◌, ◌-◌, Bool, ◌&&◌, nat_le, cond, codes, List, [], ◌∷◌, length, Option, Some, None, Result, Ok, Err}
 use Rattle.plain_values.specs.Name.{is_same_text}
+use Rattle.compared_numbers.specs.Compared.{is_limit, is_time}
 use Rattle.requirements.specs.declared.words.PlacedWord.{PlacedWord}
 use Rattle.requirements.specs.declared.sentence.Sentence.{Sentence}
 use Rattle.requirements.specs.declared.sentence.Sentence.TheVariants.{Order, Mixed, Without, Possible, Never, Probability}
@@ -66,12 +67,16 @@ abbrev pub alone_of : Sentence → List PlacedWord → Result Sentence ℕ
 alone_of sentence [] = Ok sentence
 alone_of sentence (other ∷ more) = Err other.at
 
--- the sentence of `probability`: a number, `hours`, and a number, which are read later
+-- the sentence of `probability` with these words for its numbers: one less than 1, and one above 0
+abbrev pub probability_within : PlacedWord → PlacedWord → Result Sentence ℕ
+probability_within most hours = cond (is_limit most.text) (cond (is_time hours.text) (Ok (Probability most hours)) (Err hours.at)) (Err most.at)
+
+-- the sentence of `probability`: a number, `hours`, and a number
 abbrev pub probability_of : PlacedWord → List PlacedWord → Result Sentence ℕ
 probability_of word [] = Err word.at
 probability_of word (most ∷ []) = Err most.at
 probability_of word (most ∷ (unit ∷ [])) = Err unit.at
-probability_of word (most ∷ (unit ∷ (hours ∷ []))) = cond (is_word unit (codes "hours")) (Ok (Probability most hours)) (Err unit.at)
+probability_of word (most ∷ (unit ∷ (hours ∷ []))) = cond (is_word unit (codes "hours")) (probability_within most hours) (Err unit.at)
 probability_of word (most ∷ (unit ∷ (hours ∷ (other ∷ more)))) = cond (is_word unit (codes "hours")) (Err other.at) (Err unit.at)
 
 -- The sentence that begins with this word, or the place of the word that is wrong: that behind which one lacks, or the first that has no place.

@@ -1,12 +1,13 @@
 //! The sentences of requirements.
 
 ghost use Rattle.std.specs.Prelude.{◌≡◌, Ok, IfErr, IfOk};
-ghost use Rattle.requirements.specs.Sentences.{alone_of, exceptions_of, is_word, mixed_of, mixed_with, order_of, order_with, probability_of, sentence_of, without_of};
+ghost use Rattle.requirements.specs.Sentences.{alone_of, exceptions_of, is_word, mixed_of, mixed_with, order_of, order_with, probability_of, probability_within, sentence_of, without_of};
 ghost use Rattle.requirements.specs.inner.Faults.{IsFault};
 
 use crate::number::number_of;
 use crate::reading::Fault;
 use crate::words::PlacedWord;
+use compared_numbers::{is_limit, is_time};
 use plain_values::{List, Mem, copied, is_same};
 use std::alloc::Global;
 
@@ -151,7 +152,7 @@ fn alone_of(sentence: Sentence, more: &[PlacedWord]) -> Result<Sentence, Fault>
     }
 }
 
-/// A number, `hours`, and a number.
+/// A number less than 1, `hours`, and a number above 0.
 fn probability_of(alloc: Global, word: &PlacedWord, more: &[PlacedWord]) -> Result<Sentence, Fault>
     ensures read { IfOk result (λ sentence. probability_of word.now more.now ≡ Ok sentence) }
     ensures wrong { IfErr result (IsFault (probability_of word.now more.now)) }
@@ -169,9 +170,27 @@ fn probability_of(alloc: Global, word: &PlacedWord, more: &[PlacedWord]) -> Resu
         return Err(Fault::Wrong(unit.at));
     }
     match more.first() {
-        None => Ok(Sentence::Probability(most.again(alloc)?, hours.again(alloc)?)),
+        None => probability_within(alloc, most, hours),
         Some(other) => Err(Fault::Wrong(other.at)),
     }
+}
+
+/// The sentence of `probability` with these words for its numbers.
+fn probability_within(
+    alloc: Global,
+    most: &PlacedWord,
+    hours: &PlacedWord,
+) -> Result<Sentence, Fault>
+    ensures read { IfOk result (λ sentence. probability_within most.now hours.now ≡ Ok sentence) }
+    ensures wrong { IfErr result (IsFault (probability_within most.now hours.now)) }
+{
+    if !is_limit(most.text.items()) {
+        return Err(Fault::Wrong(most.at));
+    }
+    if !is_time(hours.text.items()) {
+        return Err(Fault::Wrong(hours.at));
+    }
+    Ok(Sentence::Probability(most.again(alloc)?, hours.again(alloc)?))
 }
 
 /// These words again.

@@ -9,4 +9,3 @@ pub mod Reported
 pub mod Decided
 pub mod Derived
 pub mod WrittenPages
-pub mod Probable

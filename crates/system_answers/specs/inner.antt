@@ -1,4 +1,3 @@
 pub mod Ends
 pub mod Forms
 pub mod Fronts
-pub mod Probable

@@ -11,7 +11,6 @@ mod form;
 mod fronts;
 mod galileo;
 mod galileo_laws;
-mod known;
 mod path_pages;
 mod reports;
 mod target;

@@ -16,7 +16,6 @@ status_of_fault (fault.Unread at) = status.Refused (refusal BadRequirement (byte
 status_of_fault (fault.Unnamed word) = status.Refused (refusal (mistake_code word.mistake) (byte_place word.at))
 status_of_fault fault.NoRequirement = status.Refused (refusal NoRequirement (Whole 0))
 status_of_fault (fault.TooLarge its at) = status.Refused (placed_at at its)
-status_of_fault (fault.Unserved at) = status.Refused (refusal BadRequirement (byte_place at))
 
 -- what is told, as an output
 abbrev pub output_of : Told → Output

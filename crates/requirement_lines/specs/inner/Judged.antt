@@ -5,57 +5,44 @@ use Rattle.fault_system.specs.Truth.{Has, member}
 use Rattle.fault_system.specs.Systems.{System}
 use Rattle.backward_slice.specs.declared.parts.Slice.{Slice}
 use Rattle.backward_slice.specs.Slices.{HasLargeSlice, IsServed}
+use Rattle.property_reader.specs.declared.rate.Rate.{Rate}
 use Rattle.requirements.specs.declared.reading.Requirements.{Requirements}
 use Rattle.requirements.specs.Requirements.{requirements_of}
 use Rattle.requirement_names.specs.declared.mistake.NameFault.{NameFault}
 use Rattle.requirement_names.specs.declared.mistake.NameFault.TheVariants as name
 use Rattle.requirement_names.specs.declared.named.NamedRequirement.{NamedRequirement}
-use Rattle.requirement_names.specs.declared.named.NamedSentence.{NamedSentence}
-use Rattle.requirement_names.specs.declared.named.NamedSentence.TheVariants.{OfSets, Probability}
 use Rattle.requirement_names.specs.inner.Named.{AreNamed}
 use Rattle.requirement_names.specs.inner.Wrong.{IsFault}
-use Rattle.requirement_verdicts.specs.declared.verdict.Verdict.{Verdict}
 use Rattle.requirement_verdicts.specs.Meanings.{HoldsAnyway, MayHold}
-use Rattle.requirement_verdicts.specs.Verdicts.{IsVerdict}
 use Rattle.requirement_lines.specs.declared.judging.Known.{Known}
 use Rattle.requirement_lines.specs.declared.judgement.Judgement.{Judgement}
 use Rattle.requirement_lines.specs.declared.told.LineForm.{LineForm}
 use Rattle.requirement_lines.specs.declared.told.RequirementFault.{RequirementFault}
-use Rattle.requirement_lines.specs.declared.told.RequirementFault.TheVariants.{Memory, Unread, Unnamed, NoRequirement, TooLarge, Unserved}
+use Rattle.requirement_lines.specs.declared.told.RequirementFault.TheVariants.{Memory, Unread, Unnamed, NoRequirement, TooLarge}
 use Rattle.requirement_lines.specs.declared.told.Told.{Told}
-use Rattle.requirement_lines.specs.Lines.{are_met, verdicts_text}
+use Rattle.requirement_lines.specs.Rulings.{IsRulingOn, are_met}
+use Rattle.requirement_lines.specs.Lines.{verdicts_text}
 
 -- ---- one requirement
 
--- the verdict on a target by what a sentence says; there is none of a probability
-abbrev pub IsVerdictOn : System → ℕ → NamedSentence → Verdict → Type 0
-IsVerdictOn system target (OfSets sentence) verdict = IsVerdict system target sentence verdict
-IsVerdictOn system target (Probability most hours) verdict = ⊥
-
--- A requirement is judged so: it has its name, its target has a slice that is served, and this is the verdict.
-pub record IsJudgedSo (system : System) (named : NamedRequirement) (judgement : Judgement) : Type 0 where
+-- A requirement is judged so: it has its name, its target has this slice, which is served, and this is the verdict.
+pub record IsJudgedSo (system : System) (rates : List Rate) (named : NamedRequirement) (judgement : Judgement) : Type 0 where
   pub name : judgement.name ≡ named.name.text
-  pub slice : (slice : Slice) × IsServed system named.target slice
-  pub verdict : IsVerdictOn system named.target named.sentence judgement.verdict
+  pub slice : Slice
+  pub served : IsServed system named.target slice
+  pub ruling : IsRulingOn system rates named.target slice.events named.sentence judgement.ruling
 
 -- it can be judged
-abbrev pub CanBeJudged : System → NamedRequirement → Type 0
-CanBeJudged system named = (judgement : Judgement) × IsJudgedSo system named judgement
+abbrev pub CanBeJudged : System → List Rate → NamedRequirement → Type 0
+CanBeJudged system rates named = (judgement : Judgement) × IsJudgedSo system rates named judgement
 
--- a sentence is on a probability
-abbrev pub IsOfProbability : NamedSentence → Type 0
-IsOfProbability (OfSets sentence) = ⊥
-IsOfProbability (Probability most hours) = ⊤
-
--- Why a requirement is not judged: want of memory; M10 or M11, where the slice of its target is too large; or that is served, and its
--- sentence is on a probability. The place is that of its name.
+-- Why a requirement is not judged: want of memory; M10 or M11, where the slice of its target is too large. The place is that of its name.
 abbrev pub IsUnjudged : System → NamedRequirement → RequirementFault → Type 0
 IsUnjudged system named Memory = ⊤
 IsUnjudged system named (Unread at) = ⊥
 IsUnjudged system named (Unnamed word) = ⊥
 IsUnjudged system named NoRequirement = ⊥
 IsUnjudged system named (TooLarge refusal at) = HasLargeSlice system named.target refusal × (at ≡ named.name.at)
-IsUnjudged system named (Unserved at) = IsOfProbability named.sentence × ((slice : Slice) × IsServed system named.target slice) × (at ≡ named.name.at)
 
 -- why there is no slice of a target that is served: want of memory, or M10 or M11; it is of a requirement whose name stands at this place
 abbrev pub IsLarge : System → ℕ → ℕ → RequirementFault → Type 0
@@ -64,7 +51,6 @@ IsLarge system target at (Unread place) = ⊥
 IsLarge system target at (Unnamed word) = ⊥
 IsLarge system target at NoRequirement = ⊥
 IsLarge system target at (TooLarge refusal place) = HasLargeSlice system target refusal × (place ≡ at)
-IsLarge system target at (Unserved place) = ⊥
 
 -- which facts hold under no event, and which hold under some
 pub record KnowsFacts (system : System) (known : Known) : Type 0 where
@@ -74,22 +60,21 @@ pub record KnowsFacts (system : System) (known : Known) : Type 0 where
 -- ---- all requirements
 
 -- Of some requirements this is the first that is not judged, and why.
-pub record IsFirstUnjudged (system : System) (all : List NamedRequirement) (fault : RequirementFault) : Type 0 where
+pub record IsFirstUnjudged (system : System) (rates : List Rate) (all : List NamedRequirement) (fault : RequirementFault) : Type 0 where
   pub front : List NamedRequirement
   pub one : NamedRequirement
   pub rest : List NamedRequirement
   pub whole : all ≡ front ++ one ∷ rest
-  pub before : AllByRecursion (CanBeJudged system) front
+  pub before : AllByRecursion (CanBeJudged system rates) front
   pub here : IsUnjudged system one fault
 
 -- why some requirements are not judged: want of memory, or the first that is not
-abbrev pub AreUnjudged : System → List NamedRequirement → RequirementFault → Type 0
-AreUnjudged system all Memory = ⊤
-AreUnjudged system all (Unread at) = ⊥
-AreUnjudged system all (Unnamed word) = ⊥
-AreUnjudged system all NoRequirement = ⊥
-AreUnjudged system all (TooLarge refusal at) = IsFirstUnjudged system all (TooLarge refusal at)
-AreUnjudged system all (Unserved at) = IsFirstUnjudged system all (Unserved at)
+abbrev pub AreUnjudged : System → List Rate → List NamedRequirement → RequirementFault → Type 0
+AreUnjudged system rates all Memory = ⊤
+AreUnjudged system rates all (Unread at) = ⊥
+AreUnjudged system rates all (Unnamed word) = ⊥
+AreUnjudged system rates all NoRequirement = ⊥
+AreUnjudged system rates all (TooLarge refusal at) = IsFirstUnjudged system rates all (TooLarge refusal at)
 
 -- What a text of requirements says over a system: it has requirements, at least one, whose names are those of the system.
 pub record Says (system : System) (text : List ℕ) (named : List NamedRequirement) : Type 0 where
@@ -98,19 +83,19 @@ pub record Says (system : System) (text : List ℕ) (named : List NamedRequireme
   pub are_named : AreNamed system all named
 
 -- What is told of a text of requirements: the verdict on each, in their order, as lines in one of two forms; and whether each is met.
-pub record TellsRequirements (system : System) (text : List ℕ) (form : LineForm) (told : Told) : Type 0 where
+pub record TellsRequirements (system : System) (rates : List Rate) (text : List ℕ) (form : LineForm) (told : Told) : Type 0 where
   pub named : List NamedRequirement
   pub says : Says system text named
   pub judgements : List Judgement
-  pub judged : AllZip (IsJudgedSo system) named judgements
+  pub judged : AllZip (IsJudgedSo system rates) named judgements
   pub text_is : told.text.items ≡ verdicts_text form system judgements
   pub met_is : told.all_met ≡ are_met judgements
 
 -- requirements that the text has are not judged, and why
-pub record IsStopped (system : System) (text : List ℕ) (fault : RequirementFault) : Type 0 where
+pub record IsStopped (system : System) (rates : List Rate) (text : List ℕ) (fault : RequirementFault) : Type 0 where
   pub named : List NamedRequirement
   pub says : Says system text named
-  pub first : IsFirstUnjudged system named fault
+  pub first : IsFirstUnjudged system rates named fault
 
 -- why a text is not read: want of memory, or the word that is wrong
 abbrev pub IsMisread : List ℕ → RequirementFault → Type 0
@@ -119,7 +104,6 @@ IsMisread text (Unread at) = requirements_of text ≡ Err at
 IsMisread text (Unnamed word) = ⊥
 IsMisread text NoRequirement = ⊥
 IsMisread text (TooLarge refusal at) = ⊥
-IsMisread text (Unserved at) = ⊥
 
 -- why its names are not numbers: want of memory, the first word that is wrong, or there is no requirement
 abbrev pub IsMisnamedSo : System → Requirements → RequirementFault → Type 0
@@ -128,7 +112,6 @@ IsMisnamedSo system all (Unread at) = ⊥
 IsMisnamedSo system all (Unnamed word) = IsFault system all (name.Wrong word)
 IsMisnamedSo system all NoRequirement = IsFault system all name.NoRequirement
 IsMisnamedSo system all (TooLarge refusal at) = ⊥
-IsMisnamedSo system all (Unserved at) = ⊥
 
 -- the names of a text are wrong, or it has no requirement
 abbrev pub IsMisnamed : System → List ℕ → NameFault → Type 0
@@ -136,10 +119,9 @@ IsMisnamed system text fault = (all : Requirements) × (requirements_of text ≡
 
 -- Why nothing is told: want of memory; Q1, at the word that is wrong; Q3 to Q7, at the first word that is; Q2; or the first requirement that
 -- is not judged.
-abbrev pub IsRefusedFor : System → List ℕ → RequirementFault → Type 0
-IsRefusedFor system text Memory = ⊤
-IsRefusedFor system text (Unread at) = requirements_of text ≡ Err at
-IsRefusedFor system text (Unnamed word) = IsMisnamed system text (name.Wrong word)
-IsRefusedFor system text NoRequirement = IsMisnamed system text name.NoRequirement
-IsRefusedFor system text (TooLarge refusal at) = IsStopped system text (TooLarge refusal at)
-IsRefusedFor system text (Unserved at) = IsStopped system text (Unserved at)
+abbrev pub IsRefusedFor : System → List Rate → List ℕ → RequirementFault → Type 0
+IsRefusedFor system rates text Memory = ⊤
+IsRefusedFor system rates text (Unread at) = requirements_of text ≡ Err at
+IsRefusedFor system rates text (Unnamed word) = IsMisnamed system text (name.Wrong word)
+IsRefusedFor system rates text NoRequirement = IsMisnamed system text name.NoRequirement
+IsRefusedFor system rates text (TooLarge refusal at) = IsStopped system rates text (TooLarge refusal at)

@@ -18,10 +18,10 @@ pub returns-in_err-told : goal.returns-in_err-told
 returns-in_err-told c =
     let model = subst (λ its. Passes (in_later_files 1 (model_of_texts c.args.profile c.args.root.now its)) c.in_ok-model.model) c.others.ensures.texts c.in_ok-model.ensures.meets in
     let status = c.in_err-told.field-0.0 in
-    let its = subst (λ (bytes : List ℕ). Stops (required_text c.args.tap bytes c.in_ok-model.model.system) status ⊎ IsMemory status) c.first.ensures.text c.in_err-told.ensures in
+    let its = subst (λ (bytes : List ℕ). Stops (required_text c.args.tap bytes c.in_ok-model.model.system c.in_ok-model.model.rates) status ⊎ IsMemory status) c.first.ensures.text c.in_err-told.ensures in
     exits _ _ _ _ _ c.from_residual-in_err-told.ensures.1 (model beyond its)
 
 pub returns : goal.returns
 returns c =
     let model = subst (λ its. Passes (in_later_files 1 (model_of_texts c.args.profile c.args.root.now its)) c.in_ok-model.model) c.others.ensures.texts c.in_ok-model.ensures.meets in
-    model passes subst (λ (bytes : List ℕ). Passes (required_text c.args.tap bytes c.in_ok-model.model.system) (output_of c.in_ok-told.told)) c.first.ensures.text c.in_ok-told.ensures
+    model passes subst (λ (bytes : List ℕ). Passes (required_text c.args.tap bytes c.in_ok-model.model.system c.in_ok-model.model.rates) (output_of c.in_ok-told.told)) c.first.ensures.text c.in_ok-told.ensures

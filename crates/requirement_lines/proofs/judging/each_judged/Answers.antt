@@ -10,11 +10,11 @@ use Rattle.requirement_lines.proofs.Firsts.{zip-more}
 use Rattle.requirement_lines.proofs.judging.each_judged.Goals as goal
 
 pub loop-named-init : goal.loop-named-init
-loop-named-init c = subst (λ (judgements : List Judgement). AllZip (IsJudgedSo c.args.system.now) [] judgements) (sym c.new-judgements.ensures) tt
+loop-named-init c = subst (λ (judgements : List Judgement). AllZip (IsJudgedSo c.args.system.now c.args.known.now.rates.now) [] judgements) (sym c.new-judgements.ensures) tt
 
 pub loop-named-preserved : goal.loop-named-preserved
 loop-named-preserved c =
-    let So = IsJudgedSo c.args.system.now in
+    let So = IsJudgedSo c.args.system.now c.args.known.now.rates.now in
     let all = c.args.all.now in
     let i = c.loop-named.named-index in
     let judgement = c.in_ok-judgement.judgement in
@@ -26,9 +26,9 @@ pub returns-in_err-judgement-clause-unjudged : goal.returns-in_err-judgement-cla
 returns-in_err-judgement-clause-unjudged c =
     let p = err_from_is_err_and c.from_residual.result c.from_residual.ensures.1 in
     rw (p.1, p.2)
-    (unjudged-first c.args.system.now c.args.all.now c.loop-named.judgements c.loop-named.named-index c.named-item.result c.in_err-judgement.field-0.0 c.loop-named-test.true c.named-item.is c.loop-named.invariant c.in_err-judgement.ensures.unjudged)
+    (unjudged-first c.args.system.now c.args.known.now.rates.now c.args.all.now c.loop-named.judgements c.loop-named.named-index c.named-item.result c.in_err-judgement.field-0.0 c.loop-named-test.true c.named-item.is c.loop-named.invariant c.in_err-judgement.ensures.unjudged)
 
 pub returns-clause-judged : goal.returns-clause-judged
 returns-clause-judged c =
     let past = c.loop-named-test.false in
-    subst (λ (all : List NamedRequirement). AllZip (IsJudgedSo c.args.system.now) all c.loop-named.judgements) (take_all c.loop-named.named-index c.args.all.now (omega (arith, past))) c.loop-named.invariant
+    subst (λ (all : List NamedRequirement). AllZip (IsJudgedSo c.args.system.now c.args.known.now.rates.now) all c.loop-named.judgements) (take_all c.loop-named.named-index c.args.all.now (omega (arith, past))) c.loop-named.invariant

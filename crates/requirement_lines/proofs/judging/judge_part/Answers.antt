@@ -1,10 +1,21 @@
-use Rattle.std.proofs.Common.{refl, sym, subst}
-use Rattle.requirement_names.specs.inner.Named.{FitsSentence}
-use Rattle.requirement_lines.specs.inner.Judged.{IsOfProbability}
+use Rattle.std.proofs.Common.{ℕ, sym, subst, ◌∙◌}
+use Rattle.backward_slice.specs.Slices.{IsSlice}
+use Rattle.requirement_lines.specs.Rulings.{IsRulingOn}
 use Rattle.requirement_lines.proofs.judging.judge_part.Goals as goal
 
-pub judge_sets-requires-clause-fits : goal.judge_sets-requires-clause-fits
-judge_sets-requires-clause-fits c = subst (FitsSentence c.args.system.now) c.in-OfSets.is c.requires.fits.sentence
+pub ruling_on-requires-clause-slice : goal.ruling_on-requires-clause-slice
+ruling_on-requires-clause-slice c =
+    let slice = c.requires.slice.is_slice in
+    subst (λ (target : ℕ). IsSlice c.args.system.now target c.args.part.now) (sym slice.target_is) slice
 
-pub returns-in-Probability-clause-unjudged : goal.returns-in-Probability-clause-unjudged
-returns-in-Probability-clause-unjudged c = (subst IsOfProbability (sym c.in-Probability.is) tt, (c.args.part.now, c.requires.slice), refl)
+pub returns-clause-judged : goal.returns-clause-judged
+returns-clause-judged c =
+    let part = c.args.part.now in
+    let named = c.args.named.now in
+    let ruling = c.in_ok-ruling.ruling in
+    record {
+      name = c.in_ok-name.ensures ∙ c.items.ensures.items;
+      slice = part;
+      served = c.requires.slice;
+      ruling = subst (λ (target : ℕ). IsRulingOn c.args.system.now c.args.known.now.rates.now target part.events named.sentence ruling) c.requires.slice.is_slice.target_is c.in_ok-ruling.ensures;
+    }

@@ -18,4 +18,4 @@ returns-in-Ok-clause-refused c = λ text read.
     c.told_named.ensures.refused text (record { all = c.args.all.now; read = read; are_named = subst (AreNamed c.args.system.now c.args.all.now) (sym c.items.ensures.items) c.in-Ok.ensures.named })
 
 pub returns-in-Err-clause-refused : goal.returns-in-Err-clause-refused
-returns-in-Err-clause-refused c = λ text read. misnamed-refused c.args.system.now text c.args.all.now c.in-Err.fault read c.in-Err.ensures.wrong
+returns-in-Err-clause-refused c = λ text read. misnamed-refused c.args.system.now c.args.rates.now text c.args.all.now c.in-Err.fault read c.in-Err.ensures.wrong

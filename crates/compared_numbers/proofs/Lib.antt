@@ -1,0 +1,2 @@
+mod Tens
+mod Reading

@@ -1,6 +1,0 @@
-use Rattle.std.proofs.Common.{◌≡◌, take}
-use Rattle.system_answers.specs.Probability.{all_found}
-use Rattle.system_answers.proofs.known.found_in.Given as goal
-
-abbrev pub invariant-loop-its : goal.invariant-loop-its
-invariant-loop-its l = l.found.items ≡ all_found (take l.its-index l.known)

@@ -1,0 +1,3 @@
+pub mod Bounds
+pub mod Probability
+pub mod inner

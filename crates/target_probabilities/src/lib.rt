@@ -1,0 +1,8 @@
+//! The probability of a target: what is known of its events, and bounds of how probable it is.
+#![tactic(auto)]
+
+mod bounds;
+mod known;
+mod told;
+
+pub use bounds::{TargetBounds, target_bounds};
