@@ -1,3 +1,4 @@
+mod Staying
 mod Parts
 mod Firsts
 mod Singles

@@ -1,12 +1,13 @@
 //! Families of the minimal cut sets that a sentence forbids.
 
-ghost use Rattle.std.specs.Prelude.{◌≡◌, ◌↔◌, ◌∷◌, [], true, ℕ, List as Items, Contains, IfOk};
+ghost use Rattle.std.specs.Prelude.{◌≡◌, ◌↔◌, ◌∷◌, [], true, ℕ, List as Items, Contains, IfOk, IfSome, IsTrue, Some};
 ghost use Rattle.std.specs.List.{AllByRecursion};
 ghost use Rattle.zdd_store.specs.inner.Family.{IsRising, covers};
 ghost use Rattle.zdd_store.specs.inner.Store.{IsIn, Keeps, family_of};
 ghost use Rattle.cutset_engine.specs.inner.Families.{HasMinimalCutSets};
-ghost use Rattle.forbidden_sets.specs.inner.Families.{HasOthers, HasThoseWith, IsJudged};
+ghost use Rattle.forbidden_sets.specs.inner.Families.{AreFound, HasOthers, HasThoseWith, IsJudged};
 
+use crate::found::FoundFamily;
 use crate::judged::Judged;
 use cutset_engine::{Asked, family};
 use plain_values::{List, Mem};
@@ -14,8 +15,64 @@ use std::alloc::Global;
 use zdd_families::{single, wide_union, without};
 use zdd_store::{Id, Store};
 
+/// The minimal cut sets, of at most so many events where that is given. They are looked for once for each target and greatest order.
+fn cut_sets(
+    alloc: Global,
+    judged: &Judged<'_>,
+    most: Option<u32>,
+    families: &mut List<FoundFamily>,
+    store: &mut Store,
+) -> Mem<Id>
+    requires slice { IsJudged judged.now }
+    requires families { AreFound judged.now.system.now store.old families.old }
+    ensures found { IfOk result (IsIn store.new) }
+    ensures exact { IfOk result (λ id. HasMinimalCutSets judged.now.system.now judged.now.slice.now.target most (family_of store.new id)) }
+    ensures kept { Keeps store.old store.new }
+    ensures families { AreFound judged.now.system.now store.new families.new }
+{
+    let target = judged.slice.target;
+    if let Some(id) = found_family(families.items(), target, most) {
+        return Ok(id);
+    }
+    let id = new_family(alloc, judged, most, store)?;
+    families.push(FoundFamily { target, most, id })?;
+    Ok(id)
+}
+
+/// The family that was found of a target for this greatest order, if one was.
+fn found_family(families: &[FoundFamily], target: u32, most: Option<u32>) -> Option<Id>
+    ensures { IfSome result (λ id. Contains families.now (record { target = target; most = most; id = id })) }
+{
+    for one in families {
+        if one.target == target && is_same_order(one.most, most) {
+            return Some(one.id);
+        }
+    }
+    None
+}
+
+/// Whether two greatest orders are one; none is one of its own.
+fn is_same_order(one: Option<u32>, other: Option<u32>) -> bool
+    ensures { IsTrue result → one ≡ other }
+{
+    match one {
+        Some(one) => is_order(one, other),
+        None => other.is_none(),
+    }
+}
+
+/// Whether this is the greatest order that is given.
+fn is_order(one: u32, other: Option<u32>) -> bool
+    ensures { IsTrue result → Some one ≡ other }
+{
+    match other {
+        Some(other) => one == other,
+        None => false,
+    }
+}
+
 /// The minimal cut sets, of at most so many events where that is given.
-fn cut_sets(alloc: Global, judged: &Judged<'_>, most: Option<u32>, store: &mut Store) -> Mem<Id>
+fn new_family(alloc: Global, judged: &Judged<'_>, most: Option<u32>, store: &mut Store) -> Mem<Id>
     requires { IsJudged judged.now }
     ensures found { IfOk result (IsIn store.new) }
     ensures exact { IfOk result (λ id. HasMinimalCutSets judged.now.system.now judged.now.slice.now.target most (family_of store.new id)) }
@@ -36,15 +93,18 @@ pub(crate) fn other_sets(
     judged: &Judged<'_>,
     most: u32,
     parts: &[List<u32>],
+    families: &mut List<FoundFamily>,
     store: &mut Store,
 ) -> Mem<Id>
     requires slice { IsJudged judged.now }
     requires rising { AllByRecursion IsRising parts.now }
+    requires families { AreFound judged.now.system.now store.old families.old }
     ensures found { IfOk result (IsIn store.new) }
     ensures exact { IfOk result (λ id. HasOthers judged.now.system.now judged.now.slice.now.target most parts.now (family_of store.new id)) }
     ensures kept { Keeps store.old store.new }
+    ensures families { AreFound judged.now.system.now store.new families.new }
 {
-    let sets = cut_sets(alloc, judged, Some(most), store)?;
+    let sets = cut_sets(alloc, judged, Some(most), families, store)?;
     let all = sets_family(store, parts)?;
     let id = without(store, sets, all)?;
     Ok(id)
@@ -88,14 +148,17 @@ pub(crate) fn sets_with(
     alloc: Global,
     judged: &Judged<'_>,
     event: u32,
+    families: &mut List<FoundFamily>,
     store: &mut Store,
 ) -> Mem<Id>
-    requires { IsJudged judged.now }
+    requires slice { IsJudged judged.now }
+    requires families { AreFound judged.now.system.now store.old families.old }
     ensures found { IfOk result (IsIn store.new) }
     ensures exact { IfOk result (λ id. HasThoseWith judged.now.system.now judged.now.slice.now.target event (family_of store.new id)) }
     ensures kept { Keeps store.old store.new }
+    ensures families { AreFound judged.now.system.now store.new families.new }
 {
-    let all = cut_sets(alloc, judged, None, store)?;
+    let all = cut_sets(alloc, judged, None, families, store)?;
     let one = single(store, event)?;
     let others = without(store, all, one)?;
     let id = without(store, all, others)?;

@@ -12,9 +12,10 @@ ghost use Rattle.requirement_names.specs.inner.Named.{FitsSets};
 ghost use Rattle.requirement_names.specs.declared.named.SetSentence.TheVariants.{Mixed, Never, Order, Without};
 ghost use Rattle.requirement_verdicts.specs.Meanings.{HoldsAnyway};
 ghost use Rattle.requirement_verdicts.specs.inner.Verdicts.{ForbidsNone, IsFirstForbidden};
-ghost use Rattle.forbidden_sets.specs.inner.Families.{IsJudged, single};
+ghost use Rattle.forbidden_sets.specs.inner.Families.{AreFound, IsJudged, single};
 
 use crate::families::sets_with;
+use crate::found::FoundFamily;
 use crate::judged::Judged;
 use crate::searching::{first_other, smallest};
 use cutset_engine::in_slice;
@@ -29,28 +30,31 @@ pub fn first_forbidden(
     alloc: Global,
     judged: &Judged<'_>,
     sentence: &SetSentence,
+    families: &mut List<FoundFamily>,
     store: &mut Store,
 ) -> Mem<Option<List<u32>>>
     requires slice { IsJudged judged.now }
+    requires families { AreFound judged.now.system.now store.old families.old }
     requires sets { FitsSets judged.now.system.now sentence.now }
     requires some { HoldsAnyway judged.now.system.now judged.now.slice.now.target → ⊥ }
     ensures first { IfOk result (λ found. MatchOption found
         (ForbidsNone judged.now.system.now judged.now.slice.now.target sentence.now)
         (IsFirstForbidden judged.now.system.now judged.now.slice.now.target sentence.now)) }
     ensures kept { Keeps store.old store.new }
+    ensures families { AreFound judged.now.system.now store.new families.new }
 {
     match sentence {
         SetSentence::Order(least, except) => {
             let parts = except.items();
-            small_other(alloc, judged, *least, parts, store)
+            small_other(alloc, judged, *least, parts, families, store)
         }
         SetSentence::Mixed(group, most) => {
             let members = group.items();
-            first_inside(alloc, judged, members, *most, store)
+            first_inside(alloc, judged, members, *most, families, store)
         }
-        SetSentence::Without(event) => first_with(alloc, judged, *event, store),
+        SetSentence::Without(event) => first_with(alloc, judged, *event, families, store),
         SetSentence::Possible => Ok(None),
-        SetSentence::Never => first_of_all(alloc, judged, store),
+        SetSentence::Never => first_of_all(alloc, judged, families, store),
     }
 }
 
@@ -60,19 +64,22 @@ fn small_other(
     judged: &Judged<'_>,
     least: u32,
     except: &[List<u32>],
+    families: &mut List<FoundFamily>,
     store: &mut Store,
 ) -> Mem<Option<List<u32>>>
     requires slice { IsJudged judged.now }
+    requires families { AreFound judged.now.system.now store.old families.old }
     requires sets { AllByRecursion (IsEventSet judged.now.system.now) except.now }
     requires some { HoldsAnyway judged.now.system.now judged.now.slice.now.target → ⊥ }
     ensures first { IfOk result (λ found. MatchOption found
         (ForbidsNone judged.now.system.now judged.now.slice.now.target (Order least except.now))
         (IsFirstForbidden judged.now.system.now judged.now.slice.now.target (Order least except.now))) }
     ensures kept { Keeps store.old store.new }
+    ensures families { AreFound judged.now.system.now store.new families.new }
 {
     let _few = judged.system.event_infos();
     let most = least.saturating_sub(1).min(judged.system.events());
-    first_other(alloc, judged, except, most, store)
+    first_other(alloc, judged, except, most, families, store)
 }
 
 /// The first minimal cut set, of at most so many events where that is given, that lies in a group. None is sought where the target does not
@@ -82,15 +89,18 @@ fn first_inside(
     judged: &Judged<'_>,
     group: &[u32],
     most: Option<u32>,
+    families: &mut List<FoundFamily>,
     store: &mut Store,
 ) -> Mem<Option<List<u32>>>
     requires slice { IsJudged judged.now }
+    requires families { AreFound judged.now.system.now store.old families.old }
     requires group { IsEventSet judged.now.system.now group.now }
     requires some { HoldsAnyway judged.now.system.now judged.now.slice.now.target → ⊥ }
     ensures first { IfOk result (λ found. MatchOption found
         (ForbidsNone judged.now.system.now judged.now.slice.now.target (Mixed group.now most))
         (IsFirstForbidden judged.now.system.now judged.now.slice.now.target (Mixed group.now most))) }
     ensures kept { Keeps store.old store.new }
+    ensures families { AreFound judged.now.system.now store.new families.new }
 {
     in_slice();
     let _few = judged.system.event_infos();
@@ -106,7 +116,7 @@ fn first_inside(
     let outside = single_sets(alloc, needed, &events)?;
     let parts = outside.items();
     let order = most.unwrap_or(count).min(count);
-    first_other(alloc, judged, parts, order, store)
+    first_other(alloc, judged, parts, order, families, store)
 }
 
 /// The sets of one number each, of those of a list that are in no set.
@@ -135,28 +145,38 @@ fn first_with(
     alloc: Global,
     judged: &Judged<'_>,
     event: u32,
+    families: &mut List<FoundFamily>,
     store: &mut Store,
 ) -> Mem<Option<List<u32>>>
     requires slice { IsJudged judged.now }
+    requires families { AreFound judged.now.system.now store.old families.old }
     ensures first { IfOk result (λ found. MatchOption found
         (ForbidsNone judged.now.system.now judged.now.slice.now.target (Without event))
         (IsFirstForbidden judged.now.system.now judged.now.slice.now.target (Without event))) }
     ensures kept { Keeps store.old store.new }
+    ensures families { AreFound judged.now.system.now store.new families.new }
 {
     let most = judged.system.events();
-    let with_it = sets_with(alloc, judged, event, store)?;
+    let with_it = sets_with(alloc, judged, event, families, store)?;
     smallest(alloc, store, with_it, most)
 }
 
 /// The first minimal cut set.
-fn first_of_all(alloc: Global, judged: &Judged<'_>, store: &mut Store) -> Mem<Option<List<u32>>>
+fn first_of_all(
+    alloc: Global,
+    judged: &Judged<'_>,
+    families: &mut List<FoundFamily>,
+    store: &mut Store,
+) -> Mem<Option<List<u32>>>
     requires slice { IsJudged judged.now }
+    requires families { AreFound judged.now.system.now store.old families.old }
     requires some { HoldsAnyway judged.now.system.now judged.now.slice.now.target → ⊥ }
     ensures first { IfOk result (λ found. MatchOption found
         (ForbidsNone judged.now.system.now judged.now.slice.now.target Never)
         (IsFirstForbidden judged.now.system.now judged.now.slice.now.target Never)) }
     ensures kept { Keeps store.old store.new }
+    ensures families { AreFound judged.now.system.now store.new families.new }
 {
     let most = judged.system.events();
-    first_other(alloc, judged, &[], most, store)
+    first_other(alloc, judged, &[], most, families, store)
 }

@@ -3,8 +3,10 @@
 
 mod families;
 mod forbidden;
+mod found;
 mod judged;
 mod searching;
 
 pub use forbidden::first_forbidden;
+pub use found::FoundFamily;
 pub use judged::Judged;

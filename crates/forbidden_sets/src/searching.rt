@@ -7,9 +7,10 @@ ghost use Rattle.zdd_store.specs.inner.Store.{IsIn, Keeps, family_of};
 ghost use Rattle.requirement_verdicts.specs.Meanings.{HoldsAnyway};
 ghost use Rattle.requirement_verdicts.specs.Verdicts.{IsFirstMinimal};
 ghost use Rattle.requirement_verdicts.specs.inner.Verdicts.{HasNoMinimal};
-ghost use Rattle.forbidden_sets.specs.inner.Families.{HasSizes, IsFirstOf, IsHead, IsJudged, IsOther};
+ghost use Rattle.forbidden_sets.specs.inner.Families.{AreFound, HasSizes, IsFirstOf, IsHead, IsJudged, IsOther};
 
 use crate::families::other_sets;
+use crate::found::FoundFamily;
 use crate::judged::Judged;
 use plain_values::{List, Mem};
 use std::alloc::Global;
@@ -25,20 +26,23 @@ pub(crate) fn first_other(
     judged: &Judged<'_>,
     parts: &[List<u32>],
     most: u32,
+    families: &mut List<FoundFamily>,
     store: &mut Store,
 ) -> Mem<Option<List<u32>>>
     requires slice { IsJudged judged.now }
+    requires families { AreFound judged.now.system.now store.old families.old }
     requires rising { AllByRecursion IsRising parts.now }
     requires some { HoldsAnyway judged.now.system.now judged.now.slice.now.target → ⊥ }
     ensures first { IfOk result (λ found. MatchOption found
         (HasNoMinimal judged.now.system.now judged.now.slice.now.target (IsOther parts.now most))
         (IsFirstMinimal judged.now.system.now judged.now.slice.now.target (IsOther parts.now most))) }
     ensures kept { Keeps store.old store.new }
+    ensures families { AreFound judged.now.system.now store.new families.new }
 {
     let mut tried = 0;
     while tried < most {
         let order = next_order(tried, most);
-        let found = first_within(alloc, judged, parts, order, store)?;
+        let found = first_within(alloc, judged, parts, order, families, store)?;
         if let Some(set) = found {
             return Ok(Some(set));
         }
@@ -53,17 +57,20 @@ fn first_within(
     judged: &Judged<'_>,
     parts: &[List<u32>],
     order: u32,
+    families: &mut List<FoundFamily>,
     store: &mut Store,
 ) -> Mem<Option<List<u32>>>
     requires slice { IsJudged judged.now }
+    requires families { AreFound judged.now.system.now store.old families.old }
     requires rising { AllByRecursion IsRising parts.now }
     requires some { HoldsAnyway judged.now.system.now judged.now.slice.now.target → ⊥ }
     ensures first { IfOk result (λ found. MatchOption found
         (HasNoMinimal judged.now.system.now judged.now.slice.now.target (IsOther parts.now order))
         (IsFirstMinimal judged.now.system.now judged.now.slice.now.target (IsOther parts.now order))) }
     ensures kept { Keeps store.old store.new }
+    ensures families { AreFound judged.now.system.now store.new families.new }
 {
-    let id = other_sets(alloc, judged, order, parts, store)?;
+    let id = other_sets(alloc, judged, order, parts, families, store)?;
     smallest(alloc, store, id, order)
 }
 

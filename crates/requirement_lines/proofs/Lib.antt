@@ -2,3 +2,4 @@ mod Facts
 mod Firsts
 mod Tests
 mod Exits
+mod Nexts

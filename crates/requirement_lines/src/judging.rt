@@ -1,6 +1,6 @@
 //! The verdicts on requirements whose names are numbers.
 
-ghost use Rattle.std.specs.Prelude.{◌≡◌, ◌<◌, ◌↔◌, ℕ, IfErr, IfOk, length};
+ghost use Rattle.std.specs.Prelude.{◌≡◌, ◌<◌, ◌≤◌, ◌↔◌, ℕ, IfErr, IfOk, IfSome, MatchOption, OnOk, length, take};
 ghost use Rattle.std.specs.List.{AllByRecursion, AllZip};
 ghost use Rattle.fault_system.specs.Truth.{Has, member};
 ghost use Rattle.backward_slice.specs.Slices.{IsServed, IsSlice};
@@ -10,13 +10,15 @@ ghost use Rattle.requirement_verdicts.specs.Meanings.{HoldsAnyway, MayHold};
 ghost use Rattle.requirement_verdicts.specs.Verdicts.{IsVerdict};
 ghost use Rattle.probability_verdicts.specs.Verdicts.{IsProbabilityVerdict};
 ghost use Rattle.requirement_lines.specs.Rulings.{IsRulingOn};
-ghost use Rattle.requirement_lines.specs.inner.Judged.{AreUnjudged, IsJudgedSo, IsLarge, IsUnjudged, KnowsFacts};
+ghost use Rattle.requirement_lines.specs.inner.Found.{IsFoundFor};
+ghost use Rattle.requirement_lines.specs.inner.Judged.{AreUnjudged, IsAt, IsJudgedSo, IsLarge, KnowsFacts};
 
+use crate::found::{Found, forget_if_full};
 use crate::judgement::Judgement;
 use crate::ruling::Ruling;
 use crate::told::RequirementFault;
 use backward_slice::{Slice, slice};
-use dependency_blocks::blocks;
+use dependency_blocks::{Blocks, blocks};
 use fault_system::{Bits, FaultSystem};
 use forbidden_sets::{Judged, first_forbidden};
 use plain_values::{List, Mem, Stop, copied};
@@ -26,7 +28,6 @@ use requirement_names::{NamedRequirement, NamedSentence, SetSentence};
 use requirement_verdicts::{Verdict, early_verdict, late_verdict};
 use requirements::PlacedWord;
 use std::alloc::Global;
-use zdd_store::Store;
 
 /// What is known of a system.
 #[derive(Clone, Copy)]
@@ -103,48 +104,109 @@ fn each_judged(
     ensures judged { IfOk result (λ judgements. AllZip (IsJudgedSo system.now known.now.rates.now) all.now judgements) }
     ensures unjudged { IfErr result (AreUnjudged system.now known.now.rates.now all.now) }
 {
+    let mut found = Found::new(alloc);
     let mut judgements = List::new(alloc);
-    for named in all {
-        let judgement = judge(alloc, system, known, named)?;
-        judgements.push(judgement)?;
+    while let Some(named) = next_of(all, judgements.items().len()) {
+        judge_next(alloc, system, known, named, all, &mut judgements, &mut found)?;
     }
     Ok(judgements)
 }
 
-/// The verdict on a requirement.
-fn judge(
+/// Adds the verdicts on the next requirement and on those behind it that speak of the same target, of which the slice is made once.
+fn judge_next(
     alloc: Global,
     system: &FaultSystem,
     known: &Known<'_>,
     named: &NamedRequirement,
-) -> Result<Judgement, RequirementFault>
-    requires fits { FitsModel system.now named.now }
+    all: &[NamedRequirement],
+    judgements: &mut List<Judgement>,
+    found: &mut Found,
+) -> Result<(), RequirementFault>
+    requires fits { AllByRecursion (FitsModel system.now) all.now }
     requires known { KnowsFacts system.now known.now }
-    ensures judged { IfOk result (IsJudgedSo system.now known.now.rates.now named.now) }
-    ensures unjudged { IfErr result (IsUnjudged system.now named.now) }
+    requires found { IsFoundFor system.now found.old }
+    requires next { IsAt all.now (length judgements.old) named.now }
+    requires judged { AllZip (IsJudgedSo system.now known.now.rates.now) (take (length judgements.old) all.now) judgements.old }
+    ensures found { IsFoundFor system.now found.new }
+    ensures more { OnOk result (length judgements.old < length judgements.new) }
+    ensures judged { OnOk result (AllZip (IsJudgedSo system.now known.now.rates.now) (take (length judgements.new) all.now) judgements.new) }
+    ensures unjudged { IfErr result (AreUnjudged system.now known.now.rates.now all.now) }
 {
-    match slice_for(alloc, system, named.target, named.name.at) {
-        Ok(part) => judge_part(alloc, system, known, &part, named),
-        Err(fault) => Err(fault),
+    let part = slice_for(alloc, system, named.target, named.name.at)?;
+    let parts = blocks(alloc, system, &part)?;
+    let judgement = judge_part(alloc, system, known, &part, &parts, named, found)?;
+    judgements.push(judgement)?;
+    judge_further(alloc, system, known, &part, &parts, all, judgements, found)?;
+    Ok(())
+}
+
+/// Adds the verdicts on the next requirements, as long as they speak of the target of this slice.
+fn judge_further(
+    alloc: Global,
+    system: &FaultSystem,
+    known: &Known<'_>,
+    part: &Slice,
+    parts: &Blocks,
+    all: &[NamedRequirement],
+    judgements: &mut List<Judgement>,
+    found: &mut Found,
+) -> Mem<()>
+    requires slice { IsServed system.now part.now.target part.now }
+    requires fits { AllByRecursion (FitsModel system.now) all.now }
+    requires known { KnowsFacts system.now known.now }
+    requires found { IsFoundFor system.now found.old }
+    requires judged { AllZip (IsJudgedSo system.now known.now.rates.now) (take (length judgements.old) all.now) judgements.old }
+    ensures found { IsFoundFor system.now found.new }
+    ensures more { length judgements.old ≤ length judgements.new }
+    ensures judged { AllZip (IsJudgedSo system.now known.now.rates.now) (take (length judgements.new) all.now) judgements.new }
+{
+    while let Some(named) = further(all, judgements.items().len(), part.target) {
+        let judgement = judge_part(alloc, system, known, part, parts, named, found)?;
+        judgements.push(judgement)?;
+    }
+    Ok(())
+}
+
+/// The requirement of this number, where it speaks of the target.
+fn further(all: &[NamedRequirement], number: usize, target: u32) -> Option<&NamedRequirement>
+    ensures there { IfSome result (λ named. IsAt all.now number named.now) }
+    ensures target { IfSome result (λ named. named.now.target ≡ target) }
+{
+    let named = next_of(all, number)?;
+    if named.target == target {
+        Some(named)
+    } else {
+        None
     }
 }
 
-/// The verdict on a requirement whose target has this slice.
+/// The requirement of this number, if there is one.
+fn next_of(all: &[NamedRequirement], number: usize) -> Option<&NamedRequirement>
+    ensures { MatchOption result (length all.now ≤ number) (λ named. IsAt all.now number named.now) }
+{
+    all.get(number)
+}
+
+/// The verdict on a requirement whose target has this slice with these blocks.
 fn judge_part(
     alloc: Global,
     system: &FaultSystem,
     known: &Known<'_>,
     part: &Slice,
+    parts: &Blocks,
     named: &NamedRequirement,
-) -> Result<Judgement, RequirementFault>
+    found: &mut Found,
+) -> Mem<Judgement>
     requires slice { IsServed system.now named.now.target part.now }
     requires fits { FitsModel system.now named.now }
     requires known { KnowsFacts system.now known.now }
+    requires found { IsFoundFor system.now found.old }
+    ensures found { IsFoundFor system.now found.new }
     ensures judged { IfOk result (IsJudgedSo system.now known.now.rates.now named.now) }
-    ensures unjudged { IfErr result (IsUnjudged system.now named.now) }
 {
+    forget_if_full(alloc, found);
     let name = copied(alloc, named.name.text.items())?;
-    let ruling = ruling_on(alloc, system, known, part, &named.sentence)?;
+    let ruling = ruling_on(alloc, system, known, part, parts, &named.sentence, found)?;
     Ok(Judgement { name, ruling })
 }
 
@@ -154,15 +216,21 @@ fn ruling_on(
     system: &FaultSystem,
     known: &Known<'_>,
     part: &Slice,
+    parts: &Blocks,
     sentence: &NamedSentence,
+    found: &mut Found,
 ) -> Mem<Ruling>
     requires slice { IsSlice system.now part.now.target part.now }
     requires fits { FitsSentence system.now sentence.now }
     requires known { KnowsFacts system.now known.now }
-    ensures { IfOk result (IsRulingOn system.now known.now.rates.now part.now.target part.now.events sentence.now) }
+    requires found { IsFoundFor system.now found.old }
+    ensures found { IsFoundFor system.now found.new }
+    ensures ruling { IfOk result (IsRulingOn system.now known.now.rates.now part.now.target part.now.events sentence.now) }
 {
     match sentence {
-        NamedSentence::OfSets(sentence) => sets_ruling(alloc, system, known, part, sentence),
+        NamedSentence::OfSets(sentence) => {
+            sets_ruling(alloc, system, known, part, parts, sentence, found)
+        }
         NamedSentence::Probability(most, hours) => {
             probability_ruling(alloc, system, known, part, most, hours)
         }
@@ -175,14 +243,18 @@ fn sets_ruling(
     system: &FaultSystem,
     known: &Known<'_>,
     part: &Slice,
+    parts: &Blocks,
     sentence: &SetSentence,
+    found: &mut Found,
 ) -> Mem<Ruling>
     requires slice { IsSlice system.now part.now.target part.now }
     requires fits { FitsSets system.now sentence.now }
     requires known { KnowsFacts system.now known.now }
-    ensures { IfOk result (IsRulingOn system.now known.now.rates.now part.now.target part.now.events (OfSets sentence.now)) }
+    requires found { IsFoundFor system.now found.old }
+    ensures found { IsFoundFor system.now found.new }
+    ensures ruling { IfOk result (IsRulingOn system.now known.now.rates.now part.now.target part.now.events (OfSets sentence.now)) }
 {
-    let verdict = verdict_on(alloc, system, known, part, sentence)?;
+    let verdict = verdict_on(alloc, system, known, part, parts, sentence, found)?;
     Ok(Ruling::OfSets(verdict))
 }
 
@@ -250,25 +322,28 @@ fn verdict_on(
     system: &FaultSystem,
     known: &Known<'_>,
     part: &Slice,
+    parts: &Blocks,
     sentence: &SetSentence,
+    found: &mut Found,
 ) -> Mem<Verdict>
     requires slice { IsSlice system.now part.now.target part.now }
     requires fits { FitsSets system.now sentence.now }
     requires known { KnowsFacts system.now known.now }
-    ensures { IfOk result (IsVerdict system.now part.now.target sentence.now) }
+    requires found { IsFoundFor system.now found.old }
+    ensures found { IsFoundFor system.now found.new }
+    ensures verdict { IfOk result (IsVerdict system.now part.now.target sentence.now) }
 {
     let always = known.always.has(part.target);
     let perhaps = known.perhaps.has(part.target);
     if let Some(verdict) = early_verdict(alloc, always, perhaps, sentence) {
         return Ok(verdict);
     }
-    let parts = blocks(alloc, system, part)?;
     let judged = Judged {
         system,
         slice: part,
-        blocks: &parts,
+        blocks: parts,
     };
-    let mut store = Store::new(alloc);
-    let first = first_forbidden(alloc, &judged, sentence, &mut store)?;
+    let (families, store) = (&mut found.families, &mut found.store);
+    let first = first_forbidden(alloc, &judged, sentence, families, store)?;
     late_verdict(alloc, system, part.target, sentence, first)
 }

@@ -1,6 +1,7 @@
 //! What is told of requirements: the verdict on each over a system, the lines that tell them, and whether all are met.
 #![tactic(auto)]
 
+mod found;
 mod judgement;
 mod judging;
 mod lines;

@@ -7,11 +7,23 @@ use Rattle.backward_slice.specs.Slices.{IsSlice}
 use Rattle.zdd_store.specs.inner.Family.{Family, IsInOrder, covers, has}
 use Rattle.zdd_store.specs.inner.Store.{Families, IsIn, Keeps, family_of}
 use Rattle.zdd_store.specs.declared.id.Id.{Id}
+use Rattle.std.specs.List.{AllByRecursion}
+use Rattle.cutset_engine.specs.inner.Families.{HasMinimalCutSets}
+use Rattle.forbidden_sets.specs.declared.found.FoundFamily.{FoundFamily}
 use Rattle.forbidden_sets.specs.declared.judged.Judged.{Judged}
 
 -- the target is that of a slice of the system
 abbrev pub IsJudged : Judged → Type 0
 IsJudged judged = IsSlice judged.system.now judged.slice.now.target judged.slice.now
+
+-- a number of a store has the minimal cut sets of a target, of at most so many events where a greatest order is given
+pub record IsFound (system : System) (store : Families) (one : FoundFamily) : Type 0 where
+  pub there : IsIn store one.id
+  pub exact : HasMinimalCutSets system one.target one.most (family_of store one.id)
+
+-- so has each of these
+abbrev pub AreFound : System → Families → List FoundFamily → Type 0
+AreFound system store families = AllByRecursion (IsFound system store) families
 
 -- a set contains none of these, and has at most so many events
 abbrev pub IsOther : List (List ℕ) → ℕ → List ℕ → Type 0

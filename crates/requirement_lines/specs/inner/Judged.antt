@@ -1,5 +1,5 @@
 -- What is told of a text of requirements over a system.
-use Rattle.std.specs.Prelude.{ℕ, ◌≡◌, ◌↔◌, ⊤, List, [], ◌∷◌, ◌++◌, Ok, Err}
+use Rattle.std.specs.Prelude.{ℕ, ◌≡◌, ◌<◌, ◌↔◌, ⊤, List, [], ◌∷◌, ◌++◌, Ok, Err, get_or, length}
 use Rattle.std.specs.List.{AllByRecursion, AllZip}
 use Rattle.fault_system.specs.Truth.{Has, member}
 use Rattle.fault_system.specs.Systems.{System}
@@ -58,6 +58,10 @@ pub record KnowsFacts (system : System) (known : Known) : Type 0 where
   pub perhaps : (n : ℕ) → Has (member known.perhaps.now) n ↔ MayHold system n
 
 -- ---- all requirements
+
+-- this is the requirement of a number
+abbrev pub IsAt : List NamedRequirement → ℕ → NamedRequirement → Type 0
+IsAt all number named = (number < length all) × (named ≡ get_or all number named)
 
 -- Of some requirements this is the first that is not judged, and why.
 pub record IsFirstUnjudged (system : System) (rates : List Rate) (all : List NamedRequirement) (fault : RequirementFault) : Type 0 where

@@ -7,7 +7,7 @@ use Rattle.forbidden_sets.proofs.Firsts.{first-more, none-more, none-yet}
 use Rattle.forbidden_sets.proofs.searching.first_other.Goals as goal
 
 pub loop-tried-init : goal.loop-tried-init
-loop-tried-init c = record { kept = Keeps_same c.args.store.now; few = omega arith; none = none-yet c.args.judged.now.system.now c.args.judged.now.slice.now.target c.args.parts.now c.requires.some }
+loop-tried-init c = record { kept = Keeps_same c.args.store.now; few = omega arith; families = c.requires.families; none = none-yet c.args.judged.now.system.now c.args.judged.now.slice.now.target c.args.parts.now c.requires.some }
 
 pub loop-tried-smaller : goal.loop-tried-smaller
 loop-tried-smaller c =
@@ -22,6 +22,7 @@ loop-tried-preserved c =
     let order = c.next_order-order.result in record {
       kept = Keeps_trans _ _ _ c.loop-tried.invariant.kept c.first_within.ensures.kept;
       few = c.next_order-order.ensures.most;
+      families = c.first_within.ensures.families;
       none = subst (λ found. MatchOption found (HasNoMinimal system target (IsOther c.args.parts.now order)) (IsFirstMinimal system target (IsOther c.args.parts.now order))) c.in_default.is c.in_ok-found.ensures.first;
     }
 
