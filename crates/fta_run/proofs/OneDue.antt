@@ -53,10 +53,10 @@ use Rattle.galileo_reader.specs.TreeSystems.{system_of, target_of as top_of_tree
 use Rattle.galileo_reader.proofs.SystemLaws.{tree-system}
 use Rattle.galileo_reader.proofs.TreeTexts.{tree-named}
 use Rattle.fta_words.specs.declared.command.Options.{Options}
-use Rattle.fta_run.specs.inner.OneEnd.{AskForOneText, HasNoProbability, HasSets, IsDecidedButLast, IsLikeEnd, KeepsGates}
+use Rattle.fta_run.specs.inner.OneEnd.{AskForOneText, IsDecidedButLast, IsLikeEnd, KeepsGates}
 use Rattle.fta_run.proofs.LikeEnds.{alike, opened}
 use Rattle.fta_run.specs.Later.{IsLater, in_later_files, later_file, later_refusal}
-use Rattle.fta_run.specs.Answers.{AllTold, IsOutput, IsSameStatus}
+use Rattle.fta_run.specs.Answers.{AllTold, AskForSets, HasNoProbability, HasSets, IsOutput, IsSameStatus}
 use Rattle.fta_words.proofs.Requests.{one_request}
 use Rattle.fta_run.proofs.Inputs.{first_short}
 use Rattle.fta_run.proofs.Names.{event_line_names, fact_line_names, plain_model, plain_texts, token_names}
@@ -319,7 +319,7 @@ request_decided contents voices asked told keeps sets = (
 
 text_due_decided : (words : List (List ℕ)) (contents : List ℕ → Option (List ℕ)) (voices : List Voice) → AllTold words contents voices → AskForOneText words contents voices → IsDecided IsSameStatus (text_due words contents voices)
 text_due_decided words contents voices told one =
-    (decided_finds IsSameStatus itself (IsRequest (labels voices) words) Usage (one_request (labels voices) words), λ asked is. request_decided contents voices asked (told asked is) (one asked is).0 (one asked is).1)
+    (decided_finds IsSameStatus itself (IsRequest (labels voices) words) Usage (one_request (labels voices) words), λ asked is. request_decided contents voices asked (told asked is) (one.0 asked is) (one.1 asked is))
 
 text_due_opened : (words : List (List ℕ)) (contents : List ℕ → Option (List ℕ)) (voices : List Voice) → AllTold words contents voices → IsDecidedButLast IsSameStatus (text_due words contents voices)
 text_due_opened words contents voices told = (
@@ -416,8 +416,8 @@ module _ (words : List (List ℕ)) (contents : List ℕ → Option (List ℕ)) (
         ]
       ]
 
-  same_met : AllTold words contents voices → AskForOneText words contents voices → (a b : Output) → Passes (due words contents voices) a → Passes (due words contents voices) b → a.met ≡ b.met
-  same_met told one a b p q = go p.passed.0 q.passed.0 (one_request (labels voices) words p.passed.0 q.passed.0 p.passed.1 q.passed.1) p.passed.1 p.passed.2.0 q.passed.2.0 p.passed.2.1 q.passed.2.1 p.passed.2.2 q.passed.2.2
+  pub same_met : AllTold words contents voices → AskForSets words contents voices → (a b : Output) → Passes (due words contents voices) a → Passes (due words contents voices) b → a.met ≡ b.met
+  same_met told sets a b p q = go p.passed.0 q.passed.0 (one_request (labels voices) words p.passed.0 q.passed.0 p.passed.1 q.passed.1) p.passed.1 p.passed.2.0 q.passed.2.0 p.passed.2.1 q.passed.2.1 p.passed.2.2 q.passed.2.2
     where
       go : (asked other : Request) → asked ≡ other → IsRequest (labels voices) words asked → (texts others : List (List ℕ)) → Passed (texts_of contents asked.files) texts → Passed (texts_of contents other.files) others
           → Passed (output_for asked.kind voices asked texts) a → Passed (output_for other.kind voices other others) b → a.met ≡ b.met
@@ -426,15 +426,15 @@ module _ (words : List (List ℕ)) (contents : List ℕ → Option (List ℕ)) (
           let equal : texts ≡ others = decided.one_value IsSameStatus (texts_of contents asked.files) (texts_decided contents asked.files (told asked is)) texts others (record { passed = read }) (record { passed = read_too }) in
           let its_too : Passed (output_for asked.kind voices asked others) b = subst (λ (its : Request). Passed (output_for its.kind voices its others) b) (sym same) y in
           let its : Passed (output_for asked.kind voices asked texts) b = subst (λ (these : List (List ℕ)). Passed (output_for asked.kind voices asked these) b) (sym equal) its_too in
-          let sets : HasSets asked.kind texts = subst (HasSets asked.kind) (sym read.2.2.2.2) ((one asked is).1 read.2.0 read.2.1) in
-          met_once (profile_of asked.options.form) voices asked texts (is_require asked.kind) asked.kind refl sets a b x its
+          let here : HasSets asked.kind texts = subst (HasSets asked.kind) (sym read.2.2.2.2) (sets asked is read.2.0 read.2.1) in
+          met_once (profile_of asked.options.form) voices asked texts (is_require asked.kind) asked.kind refl here a b x its
 
   -- ---- one end at most
 
   pub one_output : AllTold words contents voices → AskForOneText words contents voices → (a b : Output) → IsOutput words contents voices a → IsOutput words contents voices b → a ≡ b
   one_output told one a b p q =
       let text : a.text ≡ b.text = decided.one_value IsSameStatus (text_due words contents voices) (text_due_decided words contents voices told one) a.text b.text (due_text a p) (due_text b q) in
-      let met : a.met ≡ b.met = same_met told one a b p q in
+      let met : a.met ≡ b.met = same_met told one.1 a b p q in
       let same : ◌≡◌ {A = Output} (record { text = a.text; met = a.met }) (record { text = b.text; met = b.met }) = cc (text, met) in
       same
 

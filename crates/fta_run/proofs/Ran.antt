@@ -1,6 +1,6 @@
 -- How a run ended, and what is due.
 use Rattle.std.proofs.Common.{◌≡◌, ◌∙◌, ◌<◌, ◌⊎◌, ℕ, Bool, true, false, List, [], ◌∷◌, length, take, drop, Option, None, Some, Result, Ok, Err, refl, sym, ap, subst, inl, inr, codes}
-use Rattle.std.specs.Prelude.{IfOk, IsErrAnd, IsOk, MatchResult}
+use Rattle.std.specs.Prelude.{IfOk, IsErrAnd, IsOk, IsOkAnd, MatchResult}
 use Rattle.std.proofs.lemmas.Bool.{false≢true}
 use Rattle.std.proofs.lemmas.Result.{err_from_is_err_and}
 use Rattle.plain_values.specs.declared.refusal.Code.TheVariants.{TooManyFiles}
@@ -54,7 +54,7 @@ use Rattle.system_answers.specs.declared.form.TreeForm.{TreeForm}
 use Rattle.system_answers.specs.Voices.{Voice, labels}
 use Rattle.model_maker.specs.Text.{text_of as made_text}
 use Rattle.cut_reports.specs.Places.{AtChosen}
-use Rattle.fta_run.specs.Answers.{AllTold, AnswersWords, BeginsWithMemory, IsCaused, IsJustified, IsManyAnswer, IsOutput, IsSameStatus, MayCome, Took, is_by_lines}
+use Rattle.fta_run.specs.Answers.{AllTold, AnswersWords, AskForSets, BeginsWithMemory, IsCaused, IsJustified, IsManyAnswer, IsOutput, IsSameStatus, MayCome, Took, is_by_lines}
 use Rattle.fta_run.specs.inner.Held.{IsReadEnd}
 use Rattle.fta_run.specs.inner.Steps.{AsksLines, IsExcused, Runs, ended}
 use Rattle.fta_words.proofs.Requests.{file_words_are, one_request}
@@ -70,7 +70,7 @@ use Rattle.fta_run.specs.declared.ready.Held.{Held}
 use Rattle.fta_run.specs.declared.ready.Ready.{Ready}
 use Rattle.fta_run.specs.declared.ready.Ready.TheVariants as made
 use Rattle.fta_run.specs.inner.Ready.{IsByLines, answer_output, held_text, ready_text}
-use Rattle.fta_run.proofs.OneDue.{due_stop, due_text, one_end, text_or_not}
+use Rattle.fta_run.proofs.OneDue.{due_stop, due_text, one_end, same_met, text_or_not}
 use Rattle.fta_run.proofs.RequiredLaws.{required-stops}
 
 -- ---- how the phases stop
@@ -509,41 +509,47 @@ refusal_is_due : (a : Result Output Status) (refusal : Refusal) → IsLikeEnd Is
 refusal_is_due (Ok x) refusal same = absurd same
 refusal_is_due (Err a) refusal same = same
 
-came_of_kind : (names words : List (List ℕ)) (a : Result Output Status) (s : Status) → EndsSo names words s → IsLikeEnd IsSameStatus a (Err s) → MayCome a s
-came_of_kind names words a s kind same =
+came_of_kind : (AreSingle : Type 0) (names words : List (List ℕ)) (a : Result Output Status) (s : Status) → EndsSo names words s → IsLikeEnd IsSameStatus a (Err s) → MayCome AreSingle a s
+came_of_kind AreSingle names words a s kind same =
     elim kind [
-      | inl none ↦ subst (MayCome a) (sym none.0) (usage_is_due a (subst (λ x. IsLikeEnd IsSameStatus a (Err x)) none.0 same))
+      | inl none ↦ subst (MayCome AreSingle a) (sym none.0) (usage_is_due a (subst (λ x. IsLikeEnd IsSameStatus a (Err x)) none.0 same))
       | inr some ↦ elim some.1 [
-        | inl refusal ↦ subst (MayCome a) (sym refusal.1) (refusal_is_due a refusal.0 (subst (λ x. IsLikeEnd IsSameStatus a (Err x)) refusal.1 same))
+        | inl refusal ↦ subst (MayCome AreSingle a) (sym refusal.1) (refusal_is_due a refusal.0 (subst (λ x. IsLikeEnd IsSameStatus a (Err x)) refusal.1 same))
         | inr other ↦ elim other [
-          | inl constant ↦ subst (MayCome a) (sym constant.1) (constant_is_due a constant.0 (subst (λ x. IsLikeEnd IsSameStatus a (Err x)) constant.1 same))
+          | inl constant ↦ subst (MayCome AreSingle a) (sym constant.1) (constant_is_due a constant.0 (subst (λ x. IsLikeEnd IsSameStatus a (Err x)) constant.1 same))
           | inr last ↦ elim last [
-            | inl stale ↦ subst (MayCome a) (sym stale.2) (stale_is_due a stale.0 stale.1 (subst (λ x. IsLikeEnd IsSameStatus a (Err x)) stale.2 same))
-            | inr unrated ↦ subst (MayCome a) (sym unrated.1) (unrated_is_due a unrated.0 (subst (λ x. IsLikeEnd IsSameStatus a (Err x)) unrated.1 same))
+            | inl stale ↦ subst (MayCome AreSingle a) (sym stale.2) (stale_is_due a stale.0 stale.1 (subst (λ x. IsLikeEnd IsSameStatus a (Err x)) stale.2 same))
+            | inr unrated ↦ subst (MayCome AreSingle a) (sym unrated.1) (unrated_is_due a unrated.0 (subst (λ x. IsLikeEnd IsSameStatus a (Err x)) unrated.1 same))
           ]
         ]
       ]
     ]
 
-came_ended : (words : List (List ℕ)) (contents : List ℕ → Option (List ℕ)) (voices : List Voice) (s : Status) → Ended words contents voices s → AllTold words contents voices → (a : Result Output Status) → IsDue (due words contents voices) a → MayCome a s
+came_ended : (words : List (List ℕ)) (contents : List ℕ → Option (List ℕ)) (voices : List Voice) (s : Status) → Ended words contents voices s → AllTold words contents voices → (a : Result Output Status) → IsDue (due words contents voices) a → MayCome (AskForSets words contents voices) a s
 came_ended words contents voices s end told a is_due =
     elim end [
-      | inl stops ↦ came_of_kind (labels voices) words a s (kind_of words contents voices s stops) (one_end words contents voices told a (Err s) is_due stops)
+      | inl stops ↦ came_of_kind (AskForSets words contents voices) (labels voices) words a s (kind_of words contents voices s stops) (one_end words contents voices told a (Err s) is_due stops)
       | inr other ↦ elim other [
-        | inl memory ↦ subst (MayCome a) (sym memory) tt
+        | inl memory ↦ subst (MayCome (AskForSets words contents voices) a) (sym memory) tt
         | inr more ↦ elim more [
-          | inl read ↦ subst (MayCome a) (sym read.1) tt
+          | inl read ↦ subst (MayCome (AskForSets words contents voices) a) (sym read.1) tt
           | inr failed ↦
               let text : IsOk a = text_or_not words contents voices told a failed.1.0 is_due failed.1.1 in
-              elim failed.0 [ inl write ↦ subst (MayCome a) (sym write) text | inr report ↦ subst (MayCome a) (sym report.1) text ]
+              elim failed.0 [ inl write ↦ subst (MayCome (AskForSets words contents voices) a) (sym write) text | inr report ↦ subst (MayCome (AskForSets words contents voices) a) (sym report.1) text ]
         ]
       ]
     ]
 
+-- where the verdicts are single ones, what is due tells as much of requirements as what was written
+met_due : (words : List (List ℕ)) (contents : List ℕ → Option (List ℕ)) (voices : List Voice) → AllTold words contents voices → (a : Result Output Status) (output : Output) → IsDue (due words contents voices) a → Passes (due words contents voices) output
+    → IsOkAnd a (λ its. AskForSets words contents voices → its.met ≡ output.met)
+met_due words contents voices told (Ok its) output is_due wrote = λ sets. same_met words contents voices told sets its output is_due wrote
+met_due words contents voices told (Err s) output is_due wrote = absurd (one_end words contents voices told (Err s) (Ok output) is_due wrote)
+
 pub ran_complete : (words : List (List ℕ)) (contents : List ℕ → Option (List ℕ)) (voices : List Voice) (read_before read_after : List ℕ → ℕ) (RoseThere : ℕ → Type 0) (t u : Seen) (result : Result Bool Status)
-    → Runs words contents voices read_before read_after RoseThere result t u → AllTold words contents voices → (a : Result Output Status) → IsDue (due words contents voices) a → MayCome a (ended result)
-ran_complete words contents voices read_before read_after RoseThere t u (Ok true) took told a is_due = text_or_not words contents voices told a took.0 is_due (due_text words contents voices (record { text = took.0; met = true }) took.1)
-ran_complete words contents voices read_before read_after RoseThere t u (Ok false) took told a is_due = text_or_not words contents voices told a took.0 is_due (due_text words contents voices (record { text = took.0; met = false }) took.1)
+    → Runs words contents voices read_before read_after RoseThere result t u → AllTold words contents voices → (a : Result Output Status) → IsDue (due words contents voices) a → MayCome (AskForSets words contents voices) a (ended result)
+ran_complete words contents voices read_before read_after RoseThere t u (Ok true) took told a is_due = met_due words contents voices told a (record { text = took.0; met = true }) is_due took.1
+ran_complete words contents voices read_before read_after RoseThere t u (Ok false) took told a is_due = met_due words contents voices told a (record { text = took.0; met = false }) is_due took.1
 ran_complete words contents voices read_before read_after RoseThere t u (Err s) end told a is_due =
     came_ended words contents voices s (how_ended words contents voices read_before read_after RoseThere t u s end) told a is_due
 

@@ -12,7 +12,7 @@ use Rattle.phases.specs.declared.status.Status.{Status}
 use Rattle.phases.specs.declared.status.Status.TheVariants.{ReadFault, WriteFault}
 use Rattle.fta_outside.specs.Outside.{Rose, Seen}
 use Rattle.system_answers.specs.Voices.{Voice, labels}
-use Rattle.fta_run.specs.Answers.{AllTold, AnswersWords, IsCaused, IsJustified, IsOutput, MayCome, Took}
+use Rattle.fta_run.specs.Answers.{AllTold, AnswersWords, AskForSets, IsCaused, IsJustified, IsOutput, MayCome, Took}
 use Rattle.fta_run.specs.Due.{due}
 use Rattle.fta_run.specs.Required.{Output}
 use Rattle.fta_run.specs.Files.{most_files}
@@ -107,7 +107,7 @@ none_failed names words RoseThere files before after status (inr fault) = λ pla
 pub ran_on : (contents : List ℕ → Option (List ℕ)) (words : List (List ℕ)) (voices : List Voice) (names : List (List ℕ)) (files texts : List (List ℕ)) (status : Status) (before after : Seen) (RoseThere : ℕ → Type 0)
     → IsToRead (labels voices) words files → AreFronts contents files texts
     → IsJustified words (text_of files texts) voices status → Took (IsOutput words (text_of files texts) voices) status before after
-    → (AllTold words (text_of files texts) voices → (its_due : Result Output Status) → IsDue (due words (text_of files texts) voices) its_due → MayCome its_due status)
+    → (AllTold words (text_of files texts) voices → (its_due : Result Output Status) → IsDue (due words (text_of files texts) voices) its_due → MayCome (AskForSets words (text_of files texts) voices) its_due status)
     → IsCaused status names words (λ name. 0) (λ name. 0) before after RoseThere
     → RanOn words (text_of files texts) voices status before after
 ran_on contents words voices names files texts status before after RoseThere named fronts verdict output complete caused =

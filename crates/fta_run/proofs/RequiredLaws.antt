@@ -44,7 +44,8 @@ use Rattle.requirement_names.specs.Wrong.{first_wrong}
 use Rattle.requirement_names.specs.Named.{named_requirement, named_sentence}
 use Rattle.requirement_names.specs.Groups.{group_names, group_sets}
 use Rattle.fta_run.specs.Required.{AreJudgements, HasLargeSliceAt, IsJudgement, Output, TellsJudgements, TellsLines, byte_place, line_form, mistake_code, named_of, named_with, placed_at, read_as, required_by, required_text, slices_of, told_output}
-use Rattle.fta_run.specs.inner.OneEnd.{HasNoProbability, IsDecidedButLast, speaks_of_sets}
+use Rattle.fta_run.specs.Answers.{HasNoProbability, speaks_of_sets}
+use Rattle.fta_run.specs.inner.OneEnd.{IsDecidedButLast}
 use Rattle.fta_run.specs.inner.Required.{output_of, status_of_fault}
 
 -- ---- what is told passes

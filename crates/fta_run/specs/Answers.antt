@@ -1,6 +1,6 @@
 -- What a run may answer, and what a sink took where it ended so.
-use Rattle.std.specs.Prelude.{◌≡◌, ◌≤◌, ◌⊎◌, Bool, true, false, ℕ, List, length, Option, Some, Result, Err, IsSome, IsOk, IsErrAnd, slice_get}
-use Rattle.std.specs.List.{AllByRecursion}
+use Rattle.std.specs.Prelude.{◌≡◌, ◌≤◌, ◌⊎◌, Bool, true, false, ℕ, List, length, Option, Some, Result, Ok, Err, IsSome, IsOk, IsOkAnd, IsErrAnd, slice_get}
+use Rattle.std.specs.List.{AllByRecursion, list_all}
 use Rattle.plain_values.specs.declared.refusal.Code.TheVariants.{TooManyFiles}
 use Rattle.plain_values.specs.declared.refusal.Refusal.{Refusal}
 use Rattle.plain_values.specs.Refusal.{of_words}
@@ -10,11 +10,15 @@ use Rattle.phases.specs.declared.status.Status.TheVariants.{Done, Unmet, Usage, 
 use Rattle.grammar_rules.specs.Texts.{syntax_error}
 use Rattle.fta_outside.specs.Outside.{Rose, Seen, Took as TookAll, TookPrefix}
 use Rattle.fta_words.specs.declared.kind.Kind.TheVariants as kind
+use Rattle.requirements.specs.declared.reading.Requirements.{Requirements}
+use Rattle.requirements.specs.declared.sentence.Sentence.{Sentence}
+use Rattle.requirements.specs.declared.sentence.Sentence.TheVariants.{Probability}
+use Rattle.requirements.specs.Requirements.{requirements_of}
 use Rattle.fta_run.specs.Words.{Kind, Request, GiveRequest, GiveNoRequest, IsRequest, file_words}
 use Rattle.fta_words.specs.declared.command.Form.{Form}
-use Rattle.fta_run.specs.Files.{most_files}
+use Rattle.fta_run.specs.Files.{MayContain, most_files}
 use Rattle.fta_run.specs.Forms.{is_drawn}
-use Rattle.fta_run.specs.Due.{due}
+use Rattle.fta_run.specs.Due.{due, first_text}
 use Rattle.fta_run.specs.Required.{Output}
 use Rattle.system_answers.specs.Voices.{Voice, labels}
 use Rattle.cut_reports.specs.Places.{is_among}
@@ -37,20 +41,38 @@ AllTold words contents voices = (asked : Request) → IsRequest (labels voices) 
 abbrev pub IsSameStatus : Status → Status → Type 0
 IsSameStatus a b = (a ≡ b) ⊎ ((file : ℕ) × (here : ℕ) × (there : ℕ) × (a ≡ Refused (syntax_error file here)) × (b ≡ Refused (syntax_error file there)))
 
--- What may come where this output or this status is due: Done and Unmet where an output is due, of which what was written says which of them
--- (where more than one is due, as of requirements on a probability, it is one of these); that status; want of memory, and a fault of a file;
--- and, where an output is due, a fault of the output or of a report.
-abbrev pub MayCome : Result Output Status → Status → Type 0
-MayCome its_due Done = IsOk its_due
-MayCome its_due Unmet = IsOk its_due
-MayCome its_due Usage = its_due ≡ Err Usage
-MayCome its_due (Refused refusal) = IsErrAnd its_due (λ status. IsSameStatus status (Refused refusal))
-MayCome its_due (Constant always) = its_due ≡ Err (Constant always)
-MayCome its_due (StaleToken token input) = its_due ≡ Err (StaleToken token input)
-MayCome its_due (Unrated event) = its_due ≡ Err (Unrated event)
-MayCome its_due (ReadFault file) = Unit {0}
-MayCome its_due Memory = Unit {0}
-MayCome its_due _ = IsOk its_due
+-- whether a sentence speaks of sets of events, and not of a probability
+abbrev pub speaks_of_sets : Sentence → Bool
+speaks_of_sets (Probability most hours) = false
+speaks_of_sets _ = true
+
+-- no requirement of a text is on a probability
+abbrev pub HasNoProbability : List ℕ → Type 0
+HasNoProbability text = (all : Requirements) → requirements_of text ≡ Ok all → list_all (λ requirement. speaks_of_sets requirement.sentence) all.requirements ≡ true
+
+-- In files of these texts a request of this kind asks for no requirement on a probability, on which more than one verdict may be right.
+abbrev pub HasSets : Kind → List (List ℕ) → Type 0
+HasSets kind.Require texts = HasNoProbability (first_text texts)
+HasSets _ texts = Unit {0}
+
+-- The words ask for no requirement on a probability in what the files may contain: they give no request of `require`, or one of a text without.
+abbrev pub AskForSets : List (List ℕ) → (List ℕ → Option (List ℕ)) → List Voice → Type 0
+AskForSets words contents voices = (asked : Request) → IsRequest (labels voices) words asked → (texts : List (List ℕ)) → MayContain contents asked.files texts → HasSets asked.kind texts
+
+-- What may come where this output or this status is due: Done for one that tells of no requirement that is not met, and Unmet for another
+-- (where the verdicts are no single ones, since a requirement is on a probability, Done and Unmet for any output); that status; want of
+-- memory, and a fault of a file; and, where an output is due, a fault of the output or of a report.
+abbrev pub MayCome : Type 0 → Result Output Status → Status → Type 0
+MayCome AreSingle its_due Done = IsOkAnd its_due (λ output. AreSingle → output.met ≡ true)
+MayCome AreSingle its_due Unmet = IsOkAnd its_due (λ output. AreSingle → output.met ≡ false)
+MayCome AreSingle its_due Usage = its_due ≡ Err Usage
+MayCome AreSingle its_due (Refused refusal) = IsErrAnd its_due (λ status. IsSameStatus status (Refused refusal))
+MayCome AreSingle its_due (Constant always) = its_due ≡ Err (Constant always)
+MayCome AreSingle its_due (StaleToken token input) = its_due ≡ Err (StaleToken token input)
+MayCome AreSingle its_due (Unrated event) = its_due ≡ Err (Unrated event)
+MayCome AreSingle its_due (ReadFault file) = Unit {0}
+MayCome AreSingle its_due Memory = Unit {0}
+MayCome AreSingle its_due _ = IsOk its_due
 
 -- ---- what came
 

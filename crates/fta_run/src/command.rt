@@ -4,7 +4,7 @@ ghost use Rattle.phases.specs.Phases.{IsDue};
 ghost use Rattle.phases.specs.inner.Meets.{MeetsBut};
 ghost use Rattle.phases.specs.declared.status.Status.{Status as AnyStatus};
 ghost use Rattle.fta_run.specs.Line.{status_line};
-ghost use Rattle.fta_run.specs.Answers.{AllTold, AnswersWords, BeginsWithMemory, IsCaused, IsJustified, IsManyAnswer, IsOutput, MayCome, Took};
+ghost use Rattle.fta_run.specs.Answers.{AllTold, AnswersWords, AskForSets, BeginsWithMemory, IsCaused, IsJustified, IsManyAnswer, IsOutput, MayCome, Took};
 ghost use Rattle.fta_run.specs.Due.{due};
 ghost use Rattle.fta_run.specs.Files.{most_files};
 ghost use Rattle.fta_run.specs.Required.{Output};
@@ -66,7 +66,7 @@ pub fn run<F: Files, S: Sink, E: Sink>(
     // Where the files of the request tell their contents, what is due for the words and the contents comes, unless memory runs
     // out or a fault comes first.
     ensures complete { AllTold words.now (F.contents files.old) (voices_of label text reports.old.items)
-        → (its_due : Result Output AnyStatus) → IsDue (due words.now (F.contents files.old) (voices_of label text reports.old.items)) its_due → MayCome its_due result }
+        → (its_due : Result Output AnyStatus) → IsDue (due words.now (F.contents files.old) (voices_of label text reports.old.items)) its_due → MayCome (AskForSets words.now (F.contents files.old) (voices_of label text reports.old.items)) its_due result }
 
     // The list of reports keeps its length and order; a report that the request does not choose is as before, and of each the text
     // and the name. Where there is no request, all reports are as before.

@@ -7,7 +7,7 @@ use Rattle.phases.specs.declared.status.Status.{Status}
 use Rattle.phases.specs.declared.status.Status.TheVariants.{Memory, ReadFault, ReportFault, WriteFault}
 use Rattle.fta_outside.specs.Outside.{Rose, Seen}
 use Rattle.system_answers.specs.Voices.{Voice, labels}
-use Rattle.fta_run.specs.Answers.{IsJustified, IsOutput, MayCome, Took}
+use Rattle.fta_run.specs.Answers.{AskForSets, IsJustified, IsOutput, MayCome, Took}
 use Rattle.fta_run.specs.Due.{due}
 use Rattle.fta_run.specs.Required.{Output}
 use Rattle.fta_run.specs.Files.{most_bytes, most_files}
@@ -45,7 +45,7 @@ IsToRead names words files =
 pub record RanOn (words : List (List ℕ)) (contents : List ℕ → Option (List ℕ)) (voices : List Voice) (status : Status) (before after : Seen) : Type 0 where
   pub verdict : IsJustified words contents voices status
   pub output : Took (IsOutput words contents voices) status before after
-  pub complete : length (file_words words) ≤ most_files → (its_due : Result Output Status) → IsDue (due words contents voices) its_due → MayCome its_due status
+  pub complete : length (file_words words) ≤ most_files → (its_due : Result Output Status) → IsDue (due words contents voices) its_due → MayCome (AskForSets words contents voices) its_due status
   pub no_fault : (file : ℕ) → status ≡ ReadFault file → ⊥
   pub write_fault : status ≡ WriteFault → Rose before.faults after.faults
 

@@ -1,16 +1,10 @@
 -- How far the end of a phase is decided, where the text of a tree with merged gates is the last of it.
-use Rattle.std.specs.Prelude.{◌≡◌, Bool, false, true, List, ℕ, Option, Ok, Result, MatchResult}
-use Rattle.std.specs.List.{list_all}
+use Rattle.std.specs.Prelude.{◌≡◌, false, List, ℕ, Option, Result, MatchResult}
 use Rattle.phases.specs.Phases.{Phase, Passed, yields, tells, chains}
 use Rattle.phases.specs.inner.Phases.{IsDecided}
 use Rattle.phases.specs.declared.status.Status.{Status}
 use Rattle.fta_words.specs.declared.kind.Kind.TheVariants as kind
-use Rattle.requirements.specs.declared.reading.Requirements.{Requirements}
-use Rattle.requirements.specs.declared.sentence.Sentence.{Sentence}
-use Rattle.requirements.specs.declared.sentence.Sentence.TheVariants.{Probability}
-use Rattle.requirements.specs.Requirements.{requirements_of}
-use Rattle.fta_run.specs.Due.{first_text}
-use Rattle.fta_run.specs.Files.{MayContain}
+use Rattle.fta_run.specs.Answers.{AskForSets}
 use Rattle.fta_run.specs.Forms.{is_merging}
 use Rattle.fta_run.specs.Words.{IsRequest, Kind, Request}
 use Rattle.system_answers.specs.Voices.{Voice, labels}
@@ -34,21 +28,6 @@ KeepsGates kind.Refusals asked = ⊥
 KeepsGates kind.Probability asked = ⊥
 KeepsGates _ asked = Unit {0}
 
--- whether a sentence speaks of sets of events, and not of a probability
-abbrev pub speaks_of_sets : Sentence → Bool
-speaks_of_sets (Probability most hours) = false
-speaks_of_sets _ = true
-
--- no requirement of a text is on a probability
-abbrev pub HasNoProbability : List ℕ → Type 0
-HasNoProbability text = (all : Requirements) → requirements_of text ≡ Ok all → list_all (λ requirement. speaks_of_sets requirement.sentence) all.requirements ≡ true
-
--- In files of these texts a request of this kind asks for no requirement on a probability, on which more than one verdict may be right.
-abbrev pub HasSets : Kind → List (List ℕ) → Type 0
-HasSets kind.Require texts = HasNoProbability (first_text texts)
-HasSets _ texts = Unit {0}
-
 -- The words ask for no tree with merged gates, for no requirement on a probability, and not for refusals or a probability.
 abbrev pub AskForOneText : List (List ℕ) → (List ℕ → Option (List ℕ)) → List Voice → Type 0
-AskForOneText words contents voices =
-    (asked : Request) → IsRequest (labels voices) words asked → KeepsGates asked.kind asked × ((texts : List (List ℕ)) → MayContain contents asked.files texts → HasSets asked.kind texts)
+AskForOneText words contents voices = ((asked : Request) → IsRequest (labels voices) words asked → KeepsGates asked.kind asked) × AskForSets words contents voices

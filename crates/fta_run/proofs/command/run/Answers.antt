@@ -4,7 +4,7 @@ use Rattle.system_answers.proofs.Reported.{labels_are}
 use Rattle.fta_outside.specs.Outside.{Took, TookPrefix}
 use Rattle.fta_run.specs.Line.{status_line}
 use Rattle.fta_run.specs.Words.{file_words}
-use Rattle.fta_run.specs.Answers.{AnswersWords, IsJustified, MayCome}
+use Rattle.fta_run.specs.Answers.{AnswersWords, AskForSets, IsJustified, MayCome}
 use Rattle.fta_run.proofs.Ran.{ran_begins, ran_caused, ran_complete, ran_output, ran_verdict, ran_words}
 use Rattle.fta_run.proofs.command.run.Goals as goal
 
@@ -23,7 +23,7 @@ pub returns-clause-complete : goal.returns-clause-complete
 returns-clause-complete g c told its_due is_due =
     let voices = voices_of (λ b. (goal.Report-dyn g (b.vtable, b.value)).label b.value) (λ b. (goal.Report-dyn g (b.vtable, b.value)).text b.value) c.args.reports.now.items in
     let contents = g.F.Files.contents c.args.files.now in
-    subst (MayCome its_due) (sym c.ended-status.ensures) (ran_complete c.args.words.now contents voices _ _ _ (g.S.Sink.seen c.args.out.now) (g.S.Sink.seen c.answer_and_write.new.out) c.answer_and_write.result c.answer_and_write.ensures.end told its_due is_due)
+    subst (MayCome (AskForSets c.args.words.now contents voices) its_due) (sym c.ended-status.ensures) (ran_complete c.args.words.now contents voices _ _ _ (g.S.Sink.seen c.args.out.now) (g.S.Sink.seen c.answer_and_write.new.out) c.answer_and_write.result c.answer_and_write.ensures.end told its_due is_due)
 
 pub returns-clause-output : goal.returns-clause-output
 returns-clause-output g c =
