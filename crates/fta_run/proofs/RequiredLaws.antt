@@ -29,6 +29,7 @@ use Rattle.requirement_names.specs.Named.{named_requirements}
 use Rattle.requirement_names.specs.inner.Named.{AreNamed}
 use Rattle.requirement_verdicts.proofs.OneVerdict.{one-verdict}
 use Rattle.requirement_lines.specs.declared.judgement.Judgement.{Judgement}
+use Rattle.requirement_lines.specs.declared.told.LineForm.{LineForm}
 use Rattle.requirement_lines.specs.declared.told.RequirementFault.{RequirementFault}
 use Rattle.requirement_lines.specs.declared.told.RequirementFault.TheVariants as fault
 use Rattle.requirement_lines.specs.declared.told.Told.{Told}
