@@ -107,7 +107,15 @@ fn each_judged(
     let mut found = Found::new(alloc);
     let mut judgements = List::new(alloc);
     while let Some(named) = next_of(all, judgements.items().len()) {
-        judge_next(alloc, system, known, named, all, &mut judgements, &mut found)?;
+        judge_next(
+            alloc,
+            system,
+            known,
+            named,
+            all,
+            &mut judgements,
+            &mut found,
+        )?;
     }
     Ok(judgements)
 }

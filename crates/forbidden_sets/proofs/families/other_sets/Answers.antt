@@ -20,11 +20,9 @@ pub returns-in_err-all-clause-families : goal.returns-in_err-all-clause-families
 returns-in_err-all-clause-families c =
     all-stay c.args.judged.now.system.now c.cut_sets.new.store c.sets_family.new.store c.cut_sets.new.families c.sets_family.ensures.kept c.cut_sets.ensures.families
 
-
 pub returns-in_err-id-clause-families : goal.returns-in_err-id-clause-families
 returns-in_err-id-clause-families c =
     all-stay c.args.judged.now.system.now c.cut_sets.new.store c.without.new.store c.cut_sets.new.families (Keeps_trans _ _ _ c.sets_family.ensures.kept c.without.ensures.kept) c.cut_sets.ensures.families
-
 
 pub returns-clause-families : goal.returns-clause-families
 returns-clause-families c =

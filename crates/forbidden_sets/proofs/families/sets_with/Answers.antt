@@ -32,16 +32,13 @@ pub returns-in_err-one-clause-families : goal.returns-in_err-one-clause-families
 returns-in_err-one-clause-families c =
     all-stay c.args.judged.now.system.now c.cut_sets.new.store c.single.new.store c.cut_sets.new.families c.single.ensures.kept c.cut_sets.ensures.families
 
-
 pub returns-in_err-others-clause-families : goal.returns-in_err-others-clause-families
 returns-in_err-others-clause-families c =
     all-stay c.args.judged.now.system.now c.cut_sets.new.store c.without.new.store c.cut_sets.new.families (Keeps_trans _ _ _ c.single.ensures.kept c.without.ensures.kept) c.cut_sets.ensures.families
 
-
 pub returns-in_err-id-clause-families : goal.returns-in_err-id-clause-families
 returns-in_err-id-clause-families c =
     all-stay c.args.judged.now.system.now c.cut_sets.new.store c.without-2.new.store c.cut_sets.new.families (Keeps_trans _ _ _ (Keeps_trans _ _ _ c.single.ensures.kept c.without.ensures.kept) c.without-2.ensures.kept) c.cut_sets.ensures.families
-
 
 pub returns-clause-families : goal.returns-clause-families
 returns-clause-families c =

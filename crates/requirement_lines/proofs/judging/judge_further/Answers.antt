@@ -27,5 +27,5 @@ loop-named-preserved c =
       found = c.judge_part.ensures.found;
       more = omega (arith, one, so_far);
       judged = one-more (IsJudgedSo c.args.system.now c.args.known.now.rates.now) c.args.all.now c.loop-named.judgements c.push.new.self c.in-Some.named.now c.in_ok-judgement.judgement c.in-Some.ensures.there.0 c.in-Some.ensures.there.1
-        c.loop-named.invariant.judged c.in_ok-judgement.ensures.judged c.in_ok-push.ensures.ok;
+          c.loop-named.invariant.judged c.in_ok-judgement.ensures.judged c.in_ok-push.ensures.ok;
     }
