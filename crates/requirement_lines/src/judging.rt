@@ -106,7 +106,7 @@ fn each_judged(
 {
     let mut found = Found::new(alloc);
     let mut judgements = List::new(alloc);
-    while let Some(named) = next_of(all, judgements.items().len()) {
+    while let Some(named) = next_of(all, &judgements) {
         judge_next(
             alloc,
             system,
@@ -168,19 +168,23 @@ fn judge_further(
     ensures more { length judgements.old ≤ length judgements.new }
     ensures judged { AllZip (IsJudgedSo system.now known.now.rates.now) (take (length judgements.new) all.now) judgements.new }
 {
-    while let Some(named) = further(all, judgements.items().len(), part.target) {
+    while let Some(named) = further(all, judgements, part.target) {
         let judgement = judge_part(alloc, system, known, part, parts, named, found)?;
         judgements.push(judgement)?;
     }
     Ok(())
 }
 
-/// The requirement of this number, where it speaks of the target.
-fn further(all: &[NamedRequirement], number: usize, target: u32) -> Option<&NamedRequirement>
-    ensures there { IfSome result (λ named. IsAt all.now number named.now) }
+/// The first requirement that is not judged, where it speaks of the target.
+fn further<'a>(
+    all: &'a [NamedRequirement],
+    judgements: &List<Judgement>,
+    target: u32,
+) -> Option<&'a NamedRequirement>
+    ensures there { IfSome result (λ named. IsAt all.now (length judgements.now) named.now) }
     ensures target { IfSome result (λ named. named.now.target ≡ target) }
 {
-    let named = next_of(all, number)?;
+    let named = next_of(all, judgements)?;
     if named.target == target {
         Some(named)
     } else {
@@ -188,8 +192,19 @@ fn further(all: &[NamedRequirement], number: usize, target: u32) -> Option<&Name
     }
 }
 
+/// The first requirement that is not judged, if there is one.
+fn next_of<'a>(
+    all: &'a [NamedRequirement],
+    judgements: &List<Judgement>,
+) -> Option<&'a NamedRequirement>
+    ensures { MatchOption result (length all.now ≤ length judgements.now) (λ named. IsAt all.now (length judgements.now) named.now) }
+{
+    let made = judgements.items();
+    requirement_at(all, made.len())
+}
+
 /// The requirement of this number, if there is one.
-fn next_of(all: &[NamedRequirement], number: usize) -> Option<&NamedRequirement>
+fn requirement_at(all: &[NamedRequirement], number: usize) -> Option<&NamedRequirement>
     ensures { MatchOption result (length all.now ≤ number) (λ named. IsAt all.now number named.now) }
 {
     all.get(number)

@@ -11,7 +11,7 @@ pub judge_part-requires-clause-slice : goal.judge_part-requires-clause-slice
 judge_part-requires-clause-slice c = subst (λ (target : ℕ). IsServed c.args.system.now target c.args.part.now) (sym c.in-Some.ensures.target) c.requires.slice
 
 pub judge_part-requires-clause-fits : goal.judge_part-requires-clause-fits
-judge_part-requires-clause-fits c = fits-at c.args.system.now c.args.all.now c.len.result c.in-Some.named.now c.requires.fits c.in-Some.ensures.there
+judge_part-requires-clause-fits c = fits-at c.args.system.now c.args.all.now (length c.loop-named.judgements) c.in-Some.named.now c.requires.fits c.in-Some.ensures.there
 
 pub loop-named-smaller : goal.loop-named-smaller
 loop-named-smaller c =
