@@ -59,9 +59,9 @@ HasSets _ texts = Unit {0}
 abbrev pub AskForSets : List (List ℕ) → (List ℕ → Option (List ℕ)) → List Voice → Type 0
 AskForSets words contents voices = (asked : Request) → IsRequest (labels voices) words asked → (texts : List (List ℕ)) → MayContain contents asked.files texts → HasSets asked.kind texts
 
--- What may come where this output or this status is due: Done for one that tells of no requirement that is not met, and Unmet for another
--- (where the verdicts are no single ones, since a requirement is on a probability, Done and Unmet for any output); that status; want of
--- memory, and a fault of a file; and, where an output is due, a fault of the output or of a report.
+-- What may come where this output or this status is due: Done for one that tells of no requirement that is not met, and Unmet for another,
+-- where each verdict is the single right one (else either of them for any output, and what was written says which: `Took`); that status;
+-- want of memory, and a fault of a file; and, where an output is due, a fault of the output or of a report.
 abbrev pub MayCome : Type 0 → Result Output Status → Status → Type 0
 MayCome AreSingle its_due Done = IsOkAnd its_due (λ output. AreSingle → output.met ≡ true)
 MayCome AreSingle its_due Unmet = IsOkAnd its_due (λ output. AreSingle → output.met ≡ false)
