@@ -1,13 +1,15 @@
 #!/usr/bin/env python3
-"""Reports on listings of many sets: runs `aadl_fta report`, and prints what it took.
+"""Runs `aadl_fta report` over families of up to 2 to the 512th sets, and prints a table: what was written, what it took, and how that grows.
 
-    reports.py --tool PROGRAM [--seconds N] [--megabytes N] [NAME..]
+    reports.py --tool PROGRAM [--size N] [--seconds N] [--megabytes N] [NAME..]
 
-Each text is known byte by byte: a wrong one says `WRONG`, and then the exit status is 1. Counts stop at 2 ^ 64 - 1. Seconds are those
-of the processor, and megabytes the most that the program had at once.
+First each case alone, and then shapes of sizes n, 2n and 4n. Each text is known byte by byte: a wrong one says `WRONG`, and then the
+exit status is 1. Counts stop at 2 ^ 64 - 1. Seconds are those of the processor, and megabytes the most that the program had at once.
+The last column is the exponent by which the seconds grow from the row before: 1 is linear, and 2 is the square.
 """
 
 import argparse
+import math
 import sys
 import tempfile
 from math import comb
@@ -67,6 +69,7 @@ CASES = {
     "pairs_32": lambda: pairs(32),
     "pairs_40": lambda: pairs(40),
     "pairs_40_order_39": lambda: pairs(40, 39),
+    "pairs_60": lambda: pairs(60),
     "pairs_63": lambda: pairs(63),
     "pairs_64": lambda: pairs(64),
     "pairs_65": lambda: pairs(65),
@@ -77,32 +80,50 @@ CASES = {
     "counted_150_of_300": lambda: counted(150, 300),
 }
 
+GROWING = {
+    "pairs_of_n": pairs,
+    "threes_of_n": lambda size: choices([3] * (size * 2 // 3)),
+    "counted_of_n": lambda size: counted(size // 4, size // 2),
+}
+
+
+def measured(tool, case, folder, options):
+    """The cells of a row of the table, the seconds, and what is wrong, if anything is."""
+    shape, words, text = case
+    file, output = folder / "model.aadl", folder / "output.txt"
+    if shape.machine is not None:
+        file.write_text(shapes.aadl_text(shape.machine))
+        root = ["p::s", f"root/state:{shape.target}"]
+    else:
+        file.write_text(shapes.network_text(shape.gates, shapes.events_of(shape.gates)))
+        root = ["p::s.i", f"root.{shape.target}/out:o{{p::t}}"]
+    done = run([tool, "report", *root, file, *words], output, options.seconds, options.megabytes)
+    right = done.status == 0 and output.read_text() == text
+    cells = [shape.counts()[1], file.stat().st_size, len(text), f"{done.seconds:.2f}", f"{done.megabytes:.0f}"]
+    return cells, done.seconds, "" if right else f" WRONG: {done.status}, {done.errors}"
+
 
 def main():
     parser = argparse.ArgumentParser(description=__doc__.splitlines()[0])
     parser.add_argument("--tool", required=True, type=Path)
+    parser.add_argument("--size", type=int, default=128, help="the smallest size of the shapes that grow, at most 128")
     parser.add_argument("--seconds", type=int, default=60)
     parser.add_argument("--megabytes", type=int, default=4096)
-    parser.add_argument("names", nargs="*", metavar="NAME", help=", ".join(CASES))
+    parser.add_argument("names", nargs="*", metavar="NAME", help=", ".join([*CASES, *GROWING]))
     options = parser.parse_args()
     tool = options.tool.resolve()
-    print("| sets | events | text | s | MB |\n|---|---|---|---|---|")
+    print("| case | size | events | bytes of model | of text | s | MB | exponent |\n|---|---|---|---|---|---|---|---|")
     wrong = False
     with tempfile.TemporaryDirectory() as folder:
-        for name in options.names or CASES:
-            shape, words, text = CASES[name]()
-            file, output = Path(folder) / f"{name}.aadl", Path(folder) / f"{name}.txt"
-            if shape.machine is not None:
-                file.write_text(shapes.aadl_text(shape.machine))
-                root = ["p::s", f"root/state:{shape.target}"]
-            else:
-                file.write_text(shapes.network_text(shape.gates, shapes.events_of(shape.gates)))
-                root = ["p::s.i", f"root.{shape.target}/out:o{{p::t}}"]
-            done = run([tool, "report", *root, file, *words], output, options.seconds, options.megabytes)
-            right = done.status == 0 and output.read_text() == text
-            wrong = wrong or not right
-            end = "" if right else f" WRONG: {done.status}, {done.errors}"
-            print(f"| {name} | {shape.counts()[1]} | {len(text)} | {done.seconds:.2f} | {done.megabytes:.0f} |{end}", flush=True)
+        for name in options.names or [*CASES, *GROWING]:
+            before = None
+            for size in [options.size * k for k in (1, 2, 4)] if name in GROWING else [None]:
+                case = CASES[name]() if size is None else GROWING[name](size)
+                cells, seconds, end = measured(tool, case, Path(folder), options)
+                wrong = wrong or bool(end)
+                grown = "" if not before else f"{math.log2(max(seconds, 0.001) / max(before, 0.001)):.2f}"
+                before = seconds
+                print("| " + " | ".join(map(str, [name, size or "", *cells, grown])) + " |" + end, flush=True)
     sys.exit(1 if wrong else 0)
 
 
