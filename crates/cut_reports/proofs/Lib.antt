@@ -7,3 +7,8 @@ pub mod Counts
 pub mod Sizes
 pub mod UseLaws
 pub mod Sequence
+pub mod Adding
+pub mod Families
+pub mod Spreading
+pub mod Chains
+pub mod Recounted

@@ -34,7 +34,7 @@ among_front (n ∷ ns) zero i e = absurd (false≢true e)
 among_front (n ∷ ns) (suc k) i e =
     ⊎_elim (λ f. ap (λ b. b || is_among ns i) f) (λ f. ap (λ b. (i == n) || b) (among_front ns k i f) ∙ or-true (i == n)) (or_cases (i == n) (is_among (take k ns) i) e)
 
-or-last : (a b : Bool) → (a || (b || false)) ≡ (a || b)
+pub or-last : (a b : Bool) → (a || (b || false)) ≡ (a || b)
 or-last true b = refl
 or-last false true = refl
 or-last false false = refl

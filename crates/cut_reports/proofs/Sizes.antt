@@ -2,9 +2,10 @@
 use Rattle.std.proofs.Common.{◌≡◌, ℕ, ◌+◌, ◌-◌, ◌<◌, List, [], ◌∷◌, ◌++◌, length, Bool, true, false, refl, sym, ap, ◌∙◌, arith}
 use Rattle.std.specs.Prelude.{◌==◌, slice_index_or, if◌then◌else◌}
 use Rattle.std.proofs.lemmas.Bool.{eqb-true, eq-eqb, false≢true}
-use Rattle.cut_reports.specs.inner.Counts.{CountedAt, capped, count_of}
+use Rattle.cut_reports.specs.inner.Counts.{CountedAt}
+use Rattle.fta_outside.specs.Counts.{capped, count_of, has_size}
 use Rattle.cut_reports.specs.inner.Numbered.{numbered_text}
-use Rattle.cut_reports.specs.inner.Orders.{AreOrders, counted_order, has_size, order_line, orders_text}
+use Rattle.cut_reports.specs.inner.Orders.{AreOrders, counted_order, order_line, orders_text}
 use Rattle.cut_reports.proofs.Counts.{count_no, count_yes}
 use Rattle.cut_reports.proofs.Numbered.{numbered_from, numbered_same}
 

@@ -4,7 +4,8 @@ use Rattle.std.specs.Prelude.{◌==◌, ◌||◌, slice_index_or, if◌then◌el
 use Rattle.std.proofs.lemmas.Bool.{eqb-true}
 use Rattle.fta_outside.specs.Reports.{TakesSet}
 use Rattle.plain_values.specs.Rising.{RisesWithin}
-use Rattle.cut_reports.specs.inner.Counts.{CountedAt, CountedEach, capped, count_of}
+use Rattle.cut_reports.specs.inner.Counts.{CountedAt, CountedEach}
+use Rattle.fta_outside.specs.Counts.{capped, count_of}
 use Rattle.cut_reports.specs.inner.Numbered.{numbered_text}
 use Rattle.cut_reports.specs.Places.{is_among}
 use Rattle.cut_reports.specs.inner.Uses.{AreUses, counted_use, use_line, uses_text}

@@ -5,5 +5,6 @@ pub mod Singles
 pub mod Counts
 pub mod Orders
 pub mod Uses
+pub mod Diagram
 pub mod Failing
 pub mod Texts

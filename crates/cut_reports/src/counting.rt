@@ -1,5 +1,6 @@
-ghost use Rattle.std.specs.Prelude.{◌≡◌, ◌+◌, ◌<◌, ◌++◌, IfOk, OnOk, replicate, vec_len};
-ghost use Rattle.cut_reports.specs.inner.Counts.{CountedAt, capped, count_end};
+ghost use Rattle.std.specs.Prelude.{◌≡◌, ◌+◌, ◌<◌, ◌++◌, IfOk, OnOk, length, replicate, vec_len};
+ghost use Rattle.cut_reports.specs.inner.Counts.{AddedAll, AddedAt, CountedAt, count_end};
+ghost use Rattle.fta_outside.specs.Counts.{capped};
 
 use itoa::Buffer;
 use plain_values::Mem;
@@ -20,6 +21,22 @@ pub(crate) fn one_more(count: u64) -> u64
     count.saturating_add(1)
 }
 
+/// So many more; a count stays at its last value.
+pub(crate) fn sum_of(count: u64, more: u64) -> u64
+    ensures { result ≡ capped (count + more) }
+{
+    count.saturating_add(more)
+}
+
+/// Counts so many more at a place.
+pub(crate) fn add_at(counts: &mut Vec<u64>, place: usize, more: u64)
+    requires { place < vec_len counts.old }
+    ensures added { AddedAt place more counts.old.items counts.new.items }
+    ensures count { vec_len counts.new ≡ vec_len counts.old }
+{
+    counts[place] = sum_of(counts[place], more);
+}
+
 /// Counts one more at a place.
 pub(crate) fn count_up(counts: &mut Vec<u64>, place: usize)
     requires { place < vec_len counts.old }
@@ -27,6 +44,17 @@ pub(crate) fn count_up(counts: &mut Vec<u64>, place: usize)
     ensures count { vec_len counts.new ≡ vec_len counts.old }
 {
     counts[place] = one_more(counts[place]);
+}
+
+/// Counts at each place so many more as are counted there of others.
+pub(crate) fn add_all(counts: &mut Vec<u64>, more: &[u64])
+    requires { vec_len counts.old ≡ length more.now }
+    ensures added { AddedAll more.now counts.old.items counts.new.items }
+    ensures count { vec_len counts.new ≡ vec_len counts.old }
+{
+    for place in 0..more.len() {
+        add_at(counts, place, more[place]);
+    }
 }
 
 /// Adds the end of a line with a count.

@@ -3,7 +3,9 @@
 #![tactic(auto)]
 
 mod beginning;
+mod counted;
 mod counting;
+mod diagram;
 mod failing;
 mod feeding;
 mod finishing;
@@ -14,10 +16,12 @@ mod stop;
 mod uses;
 mod whole;
 
+pub use counted::{CountedListing, counted_listing};
+pub use diagram::count_family;
 pub use failing::FailingReport;
 pub use feeding::feed;
 pub use finishing::name_of;
-pub use giving::FeedFault;
+pub use giving::{FeedFault, may_take_family};
 pub use orders::OrderProfile;
 pub use singles::SinglePoints;
 pub use stop::ReportStop;

@@ -1,9 +1,12 @@
-ghost use Rattle.std.specs.Prelude.{◌≡◌, ◌++◌, Some, None, IfOk, OnOk, codes, cond, decimal, length, vec_len};
+ghost use Rattle.std.specs.Prelude.{◌≡◌, ◌+◌, ◌++◌, Some, None, IfOk, OnOk, codes, cond, decimal, length, slice_index_or, vec_len};
+ghost use Rattle.std.specs.List.{between};
+ghost use Rattle.fta_outside.specs.Counts.{capped};
+ghost use Rattle.cut_reports.specs.inner.Counts.{AddedAll};
 ghost use Rattle.cut_reports.specs.inner.Numbered.{numbered_text};
 ghost use Rattle.cut_reports.specs.inner.Orders.{AreOrders, counted_order, order_line, orders_text};
 
-use crate::counting::{count_up, no_counts, one_more, push_count};
-use fta_outside::{Report, ReportFailed, WriteError};
+use crate::counting::{add_all, count_up, no_counts, one_more, push_count, sum_of};
+use fta_outside::{FamilyCounts, Report, ReportFailed, WriteError};
 use itoa::Buffer;
 use plain_values::{Mem, Name};
 use std::alloc::Global;
@@ -66,6 +69,15 @@ impl Report for OrderProfile {
         Ok(())
     }
 
+    fn takes_families(&self) -> bool {
+        true
+    }
+
+    fn take_family(&mut self, counts: &FamilyCounts) -> bool {
+        self.empty = add_orders(self.empty, &mut self.counts, counts.orders.as_slice());
+        true
+    }
+
     fn finish(&mut self, names: &[Name]) -> Result<Vec<u8>, WriteError> {
         match text_of(self.alloc, self.empty, self.counts.as_slice(), names) {
             Ok(text) => Ok(text),
@@ -75,6 +87,17 @@ impl Report for OrderProfile {
             }
         }
     }
+}
+
+/// Adds the counts of the sizes of other sets, of which the first is that of the empty ones; gives how many are empty then.
+fn add_orders(empty: u64, counts: &mut Vec<u64>, orders: &[u64]) -> u64
+    requires { length orders.now ≡ vec_len counts.old + 1 }
+    ensures empty { result ≡ capped (empty + slice_index_or orders.now 0 0) }
+    ensures added { AddedAll (between 1 (length orders.now) orders.now) counts.old.items counts.new.items }
+    ensures count { vec_len counts.new ≡ vec_len counts.old }
+{
+    add_all(counts, &orders[1..]);
+    sum_of(empty, orders[0])
 }
 
 /// The lines of the sizes that occur.

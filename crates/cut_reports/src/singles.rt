@@ -1,8 +1,9 @@
-ghost use Rattle.std.specs.Prelude.{◌≡◌, ◌++◌, [], Some, None, IfOk, OnOk, codes, cond, if◌then◌else◌, length, vec_len};
+ghost use Rattle.std.specs.Prelude.{◌≡◌, ◌<◌, ◌==◌, ◌++◌, ◌||◌, [], ℕ, Some, None, IfOk, OnOk, codes, cond, false, if◌then◌else◌, length, slice_index_or, vec_len};
 ghost use Rattle.cut_reports.specs.inner.Numbered.{numbered_text};
-ghost use Rattle.cut_reports.specs.inner.Singles.{AreMarks, marked_line, single_line, singles_text};
+ghost use Rattle.cut_reports.specs.inner.Singles.{MarkedAll, marked_line, single_line, singles_text};
+ghost use Rattle.fta_outside.specs.Counts.{AreMarks};
 
-use fta_outside::{Report, ReportFailed, WriteError};
+use fta_outside::{FamilyCounts, Report, ReportFailed, WriteError};
 use plain_values::{Mem, Name};
 use std::alloc::Global;
 
@@ -59,6 +60,15 @@ impl Report for SinglePoints {
         Ok(())
     }
 
+    fn takes_families(&self) -> bool {
+        true
+    }
+
+    fn take_family(&mut self, counts: &FamilyCounts) -> bool {
+        mark_all(&mut self.marks, counts.singles.as_slice());
+        true
+    }
+
     fn finish(&mut self, names: &[Name]) -> Result<Vec<u8>, WriteError> {
         match text_of(self.alloc, self.marks.as_slice(), names) {
             Ok(text) => Ok(text),
@@ -70,11 +80,33 @@ impl Report for SinglePoints {
     }
 }
 
-fn no_marks(alloc: Global, events: usize) -> Mem<Vec<bool>>
+/// So many marks, none set.
+pub(crate) fn no_marks(alloc: Global, events: usize) -> Mem<Vec<bool>>
     ensures marks { IfOk result (λ marks. AreMarks marks.items []) }
     ensures count { IfOk result (λ marks. vec_len marks ≡ events) }
 {
     vec![in alloc; false; events]
+}
+
+/// Sets each mark that is set among others.
+fn mark_all(marks: &mut Vec<bool>, more: &[bool])
+    requires { vec_len marks.old ≡ length more.now }
+    ensures marked { MarkedAll more.now marks.old.items marks.new.items }
+    ensures count { vec_len marks.new ≡ vec_len marks.old }
+{
+    for event in 0..more.len() {
+        mark_at(marks, event, more[event]);
+    }
+}
+
+/// Sets a mark, if it is to be.
+pub(crate) fn mark_at(marks: &mut Vec<bool>, event: usize, mark: bool)
+    requires { event < vec_len marks.old }
+    ensures marked { (i : ℕ) → slice_index_or marks.new.items i false ≡ (if i == event then (slice_index_or marks.old.items i false || mark) else slice_index_or marks.old.items i false) }
+    ensures count { vec_len marks.new ≡ vec_len marks.old }
+{
+    let marked = marks[event] || mark;
+    marks[event] = marked;
 }
 
 /// The lines of the events that are marked.

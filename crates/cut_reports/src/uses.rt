@@ -4,8 +4,8 @@ ghost use Rattle.cut_reports.specs.inner.Counts.{CountedEach};
 ghost use Rattle.cut_reports.specs.inner.Numbered.{numbered_text};
 ghost use Rattle.cut_reports.specs.inner.Uses.{AreUses, counted_use, use_line, uses_text};
 
-use crate::counting::{count_up, no_counts, push_count};
-use fta_outside::{Report, ReportFailed, WriteError};
+use crate::counting::{add_all, count_up, no_counts, push_count};
+use fta_outside::{FamilyCounts, Report, ReportFailed, WriteError};
 use plain_values::{Mem, Name};
 use std::alloc::Global;
 
@@ -58,6 +58,15 @@ impl Report for EventUse {
     fn take(&mut self, set: &[u32]) -> Result<(), ReportFailed> {
         count_each(&mut self.counts, set);
         Ok(())
+    }
+
+    fn takes_families(&self) -> bool {
+        true
+    }
+
+    fn take_family(&mut self, counts: &FamilyCounts) -> bool {
+        add_all(&mut self.counts, counts.uses.as_slice());
+        true
     }
 
     fn finish(&mut self, names: &[Name]) -> Result<Vec<u8>, WriteError> {

@@ -1,5 +1,5 @@
 -- The reports that are handed in: their names, their texts, and what is kept of them.
-use Rattle.std.proofs.Common.{◌≡◌, inl, inr, Global, IfErr, IfOk, Result, Ok, Err, Vec, ℕ, zero, suc, Bool, true, false, List, [], ◌∷◌, length, map, Option, Some, None, refl, sym, ap, ap₂, subst, ◌∙◌}
+use Rattle.std.proofs.Common.{◌≡◌, inl, inr, Global, IfErr, IfOk, IfSome, Result, Ok, Err, Vec, ℕ, zero, suc, Bool, true, false, List, [], ◌∷◌, length, map, Option, Some, None, refl, sym, ap, ap₂, subst, ◌∙◌}
 use Rattle.std.specs.Prelude.{slice_get}
 use Rattle.std.specs.List.{flat_map}
 use lib.ListN.{length-map}
@@ -7,6 +7,8 @@ use Rattle.fault_system.specs.Systems.{System}
 use Rattle.fault_system.specs.Listings.{IsListing}
 use Rattle.fault_system.proofs.Elements.{contains_In, each-made}
 use Rattle.fta_outside.specs.Reports.{TakesSet}
+use Rattle.fta_outside.specs.Counts.{HaveWidth}
+use Rattle.fta_outside.specs.declared.counts.FamilyCounts.{FamilyCounts}
 use Rattle.cut_reports.specs.Feeding.{IsKept}
 use Rattle.cut_reports.specs.inner.Feeding.{TakesEach}
 use Rattle.cut_reports.specs.Places.{AtChosen, Both, SoOrSame, is_among}
@@ -77,6 +79,11 @@ takes_listing system target most sets names is are =
     let count : length names ≡ length system.events = ap length are ∙ length-map system.events (λ event. event.name) in
     subst (λ width. TakesEach (Some width) sets) (sym count)
     (each-made (TakesSet (Some (length system.events))) sets (λ set here. ((is.exact set).0 (contains_In set sets here)).0.0.0))
+
+-- counts for all events are for reports that were begun for as many names
+pub counts_fit : (system : System) (names : List (List ℕ)) (counts : Option FamilyCounts) → names ≡ map (λ event. event.name) system.events → IfSome counts (HaveWidth (Some (length system.events)))
+    → IfSome counts (HaveWidth (Some (length names)))
+counts_fit system names counts are fit = subst (λ n. IfSome counts (HaveWidth (Some n))) (sym (ap length are ∙ length-map system.events (λ event. event.name))) fit
 
 -- ---- ends
 

@@ -9,7 +9,7 @@ ghost use Rattle.backward_slice.specs.Slices.{IsSlice};
 ghost use Rattle.zdd_store.specs.inner.Family.{is_within};
 ghost use Rattle.zdd_store.specs.inner.Store.{IsIn, family_of};
 ghost use Rattle.cutset_engine.specs.inner.Families.{HasMinimalCutSets};
-ghost use Rattle.cutset_lister.specs.inner.Walks.{IsStarted, all_sets, sets_left};
+ghost use Rattle.cutset_lister.specs.inner.Walks.{all_sets};
 ghost use Rattle.cutset_writer.specs.inner.Pages.{IsReady};
 ghost use Rattle.cutset_lister.specs.inner.SetText.{HasTokenNames};
 ghost use Rattle.system_answers.specs.inner.Fronts.{GivesPage};
@@ -18,7 +18,7 @@ ghost use Rattle.system_answers.specs.Texts.{begin_of, named_key, page_in, page_
 use crate::fronts::page_family;
 use backward_slice::{Slice, slice};
 use cutset_engine::{Asked, family, in_slice};
-use cutset_lister::{Listing, read_token};
+use cutset_lister::read_token;
 use cutset_writer::{Bookmark, ListingPage, PageWriter, SetForm};
 use dependency_blocks::blocks;
 use fault_system::FaultSystem;
@@ -196,21 +196,4 @@ pub fn page_writer(
 {
     let sets = cut_family(alloc, system, part, max_order, store)?;
     PageWriter::start(alloc, system, store, sets, part.events.items())
-}
-
-/// The listing of the target of a slice, at its beginning.
-pub fn listing_of(
-    alloc: Global,
-    system: &FaultSystem,
-    part: &Slice,
-    max_order: Option<u32>,
-    store: &mut Store,
-) -> Mem<Listing>
-    requires { IsSlice system.now part.now.target part.now }
-    ensures started { IfOk result (IsStarted store.new) }
-    ensures left { IfOk result (λ listing. sets_left store.new listing ≡ all_sets store.new listing) }
-    ensures listing { IfOk result (λ listing. IsListing system.now part.now.target max_order (all_sets store.new listing)) }
-{
-    let sets = cut_family(alloc, system, part, max_order, store)?;
-    Listing::start(alloc, store, sets, part.events.items())
 }

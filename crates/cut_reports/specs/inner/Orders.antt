@@ -1,11 +1,8 @@
 -- The report of the sizes of the sets.
-use Rattle.std.specs.Prelude.{ℕ, ◌≡◌, ◌+◌, ◌==◌, Bool, List, [], ◌++◌, length, codes, decimal, slice_index_or, if◌then◌else◌}
-use Rattle.cut_reports.specs.inner.Counts.{AreCounts, count_end, count_of}
+use Rattle.std.specs.Prelude.{ℕ, ◌≡◌, ◌+◌, ◌==◌, List, [], ◌++◌, codes, decimal, slice_index_or, if◌then◌else◌}
+use Rattle.fta_outside.specs.Counts.{AreCounts, count_of, has_size}
+use Rattle.cut_reports.specs.inner.Counts.{count_end}
 use Rattle.cut_reports.specs.inner.Numbered.{numbered_text}
-
--- whether a set has so many events
-abbrev pub has_size : ℕ → List ℕ → Bool
-has_size size set = length set == size
 
 -- the line of a size and the count of its sets; none where there is no such set
 abbrev pub order_line : ℕ → ℕ → List ℕ

@@ -1,7 +1,8 @@
 use Rattle.std.proofs.Common.{◌∙◌, ◌≡◌, [], ◌+◌, sym, ap, length, arith}
 use Rattle.std.specs.Prelude.{if◌then◌else◌}
 use Rattle.cut_reports.specs.inner.Numbered.{numbered_text}
-use Rattle.cut_reports.specs.inner.Singles.{marked_line, single_line, is_single}
+use Rattle.cut_reports.specs.inner.Singles.{marked_line, single_line}
+use Rattle.fta_outside.specs.Counts.{is_single}
 use Rattle.cut_reports.proofs.Numbered.{begun_width, numbered_same}
 use Rattle.cut_reports.proofs.Marks.{marked_right}
 use Rattle.cut_reports.proofs.singles.SinglePointsReport.finish.Goals as goal
