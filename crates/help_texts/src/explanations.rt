@@ -365,12 +365,12 @@ pub const EXPLANATIONS: [&'static [u8]; 66] = [
     \n\
     A line of the file of requirements has no reading: the place is the word that is wrong, or that\n\
     behind which one lacks. A sentence is order N, order N except TOKEN.., mixed GROUP, mixed GROUP N,\n\
-    without EVENT, possible or never; N has one to nine digits. A sentence probability P hours T is not\n\
-    judged yet: it is refused so at the name of its requirement.\n\
+    without EVENT, possible, never or probability P hours T; N has one to nine digits, P is a number\n\
+    below 1, and T one above 0, both without _ and without a base.\n\
     \n\
     Instead: write a name, a target and one sentence, as R-001 root/out:torque{errors::serviceomission}\n\
-    order 2; or a group of parts or of events, as parts software root.cha.sw root.chb.sw. For a\n\
-    probability ask probability, and compare in the pipeline.\n",
+    order 2; or a group of parts or of events, as parts software root.cha.sw root.chb.sw. A probability\n\
+    of 1 or more asks nothing: it is mostly a slip, as 1e9 for 1e-9.\n",
     b"Q2 NoRequirement\n\
     \n\
     The file has no requirement, but comments, empty lines and groups at most; the place is the file. A\n\
