@@ -366,7 +366,12 @@ fn verdict_on(
         slice: part,
         blocks: parts,
     };
-    let (families, store) = (&mut found.families, &mut found.store);
-    let first = first_forbidden(alloc, &judged, sentence, families, store)?;
+    let first = first_forbidden(
+        alloc,
+        &judged,
+        sentence,
+        &mut found.families,
+        &mut found.store,
+    )?;
     late_verdict(alloc, system, part.target, sentence, first)
 }

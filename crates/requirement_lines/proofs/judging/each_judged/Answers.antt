@@ -1,6 +1,7 @@
-use Rattle.std.proofs.Common.{List, [], length, take, sym, subst, arith}
+use Rattle.std.proofs.Common.{List, length, take, sym, subst, arith}
 use Rattle.std.specs.List.{AllZip}
 use Rattle.std.proofs.lemmas.List.{take_all}
+use Rattle.std.proofs.lemmas.Result.{err_from_is_err_and}
 use Rattle.requirement_names.specs.declared.named.NamedRequirement.{NamedRequirement}
 use Rattle.requirement_lines.specs.declared.found.Found.{Found}
 use Rattle.requirement_lines.specs.declared.judgement.Judgement.{Judgement}
@@ -22,6 +23,11 @@ loop-named-smaller c =
 
 pub loop-named-preserved : goal.loop-named-preserved
 loop-named-preserved c = record { found = c.judge_next.ensures.found; judged = c.in_ok-judge_next.ensures.judged }
+
+pub returns-in_err-judge_next-clause-unjudged : goal.returns-in_err-judge_next-clause-unjudged
+returns-in_err-judge_next-clause-unjudged c =
+    let p = err_from_is_err_and c.from_residual.result c.from_residual.ensures.1 in
+    rw (p.1, p.2) c.in_err-judge_next.ensures.unjudged
 
 pub returns-clause-judged : goal.returns-clause-judged
 returns-clause-judged c =

@@ -4,8 +4,8 @@ use Rattle.requirement_verdicts.specs.Verdicts.{IsVerdict}
 use Rattle.requirement_lines.proofs.Facts.{event-sets, tells-fact}
 use Rattle.requirement_lines.proofs.judging.verdict_on.Goals as goal
 
-pub returns-in-Some : goal.returns-in-Some
-returns-in-Some c =
+pub returns-in-Some-clause-verdict : goal.returns-in-Some-clause-verdict
+returns-in-Some-clause-verdict c =
     let system = c.args.system.now in
     let target = c.args.part.now.target in
     let sentence = c.args.sentence.now in
