@@ -1,0 +1,4 @@
+mod Alone
+pub mod Small
+mod Wider
+mod Held
