@@ -181,7 +181,7 @@ fn tell_end<S: Sink>(
     let Ok(more) = more_with(alloc, call, read, reports, its_end) else {
         return Status::Memory;
     };
-    match write_both(out, read.names.items(), reports, its_end, more.as_slice()) {
+    match write_for(out, read, reports, its_end, more.as_slice()) {
         Ok(()) => Status::Done,
         Err(_) => Status::WriteFault,
     }
@@ -199,6 +199,19 @@ fn more_with(
 {
     let names = names_of(alloc, reports)?;
     more_of(alloc, names.items(), call, read, its_end)
+}
+
+/// Writes the line of a status with which a call on these files is refused, and a text.
+fn write_for<S: Sink>(
+    out: &mut S,
+    read: &ReadFiles,
+    reports: &Vec<Box<dyn Report>>,
+    status: &Status,
+    more: &[u8],
+) -> Result<(), SinkFailed>
+    ensures { Writes (line_before read.now.names (map label reports.now.items) status.now ++ more.now) result (S.seen out.old) (S.seen out.new) }
+{
+    write_both(out, read.names.items(), reports, status, more)
 }
 
 /// Writes the line of a status with which a call is refused, and a text.
