@@ -98,6 +98,15 @@ class Piece:
             raise ValueError
 
 
+class Stated(tuple):
+    """A binding: its kind, its references and its targets; `place` is where it stands."""
+
+    def __new__(cls, parts, place):
+        made = super().__new__(cls, parts)
+        made.place = place
+        return made
+
+
 def bindings_of(part):
     """The bindings of a component, from the farthest classifier to the nearest."""
     found = []
@@ -105,7 +114,7 @@ def bindings_of(part):
         for tokens in classifier.properties:
             for piece in pieces(tokens):
                 try:
-                    found.append(Piece(piece).binding())
+                    found.append(Stated(Piece(piece).binding(), piece[0].place))
                 except ValueError:
                     pass
     return found
@@ -169,7 +178,8 @@ def braced_of(part):
                     kind, references, targets = Piece(piece).binding(braced=True)
                 except ValueError:
                     continue
-                found.append((kind, references, [(member.name,) + path for path in targets]))
+                its = (kind, references, [(member.name,) + path for path in targets])
+                found.append(Stated(its, piece[0].place))
     return found
 
 

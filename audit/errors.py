@@ -274,7 +274,8 @@ class ErrorReader(Reader):
                 others = [text for is_path, text in targets if not is_path]
                 targets = [is_path for is_path, _ in targets]
             self.expect(";")
-            found.append(Node(names=written(names), value=value, targets=targets, others=others))
+            found.append(Node(names=written(names), value=value, targets=targets, others=others,
+                              place=names[0].place))
         return found
 
     def applies_target(self):
@@ -433,13 +434,13 @@ class ErrorReader(Reader):
             self.expect(":")
             if self.accept("propagation"):
                 self.expect("point", ";")
-                clause.points.append(name.text)
+                clause.points.append(Node(name=name.text, place=name.place))
                 continue
             ends = [self.path_end()]
             self.expect("->")
             ends.append(self.path_end())
             self.expect(";")
-            clause.paths.append(Node(name=name.text, ends=ends))
+            clause.paths.append(Node(name=name.text, ends=ends, place=name.place))
         self.expect("end", "paths", ";")
 
     def path_end(self):

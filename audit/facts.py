@@ -96,8 +96,10 @@ class Facts:
             if member.kind == "features":
                 part.sides[member.name] = {side: "open" if side in member.sides else None
                                            for side in ("in", "out")}
-        for name, _ in part.points:
-            part.sides.setdefault(name, {"in": "open", "out": "open"})
+                part.places.setdefault(("point", member.name), member.place)
+        for item, _ in part.points:
+            part.sides.setdefault(item.name, {"in": "open", "out": "open"})
+            part.places.setdefault(("point", item.name), item.place)
         stand = [written(item.point) for item, _ in part.propagations]
         for word in POINT_WORDS:
             if (word,) in stand:
@@ -323,17 +325,17 @@ class Facts:
             for member in part.members:
                 if member.kind == "connections":
                     one = self.connection(part, member, faults)
-                    written_ones.append((member.name, *one))
+                    written_ones.append((member, *one))
                     part.given.append((member.name, one[1]))
             for path, _ in part.paths:
                 ends = [self.path_end(part, end, faults) for end in path.ends]
-                written_ones.append((path.name, ends, [ends]))
+                written_ones.append((path, ends, [ends]))
             for clause in part.clauses:
                 faults += [Refusal(code, place) for code, place in clause.connection_faults]
             first(faults)
-            for name, ends, pairs in written_ones:
+            for item, ends, pairs in written_ones:
                 joined = [self.join(start, goal) for start, goal in self.linked(part, pairs)]
-                self.given.append((part, name, ends, any(joined)))
+                self.given.append((part, item, ends, any(joined)))
         for start, goal in binding_links(self.parts, self.below):
             self.join(start, goal)
         self.first_links = list(self.links)

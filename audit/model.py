@@ -173,7 +173,7 @@ class Instance:
 def gather(part):
     """The error model items of a component; a later one takes the place of an earlier."""
     keys = {"propagations": lambda x: (tuple(t.text for t in x.point), x.direction, x.negated),
-            "flows": lambda x: x.name, "events": lambda x: x.name, "points": lambda x: x,
+            "flows": lambda x: x.name, "events": lambda x: x.name, "points": lambda x: x.name,
             "paths": lambda x: x.name, "transitions": lambda x: x.label,
             "outgoing": lambda x: x.label, "composites": lambda x: x.label}
     part.clauses = []

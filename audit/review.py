@@ -1,4 +1,5 @@
-"""The text of `review` (docs/REVIEW_FINDINGS.md): each group of lines is a function."""
+"""The text of `review` (docs/REVIEW_FINDINGS.md): each group of lines is a function, which gives each
+line with the place (file, byte) of what it names."""
 
 from bindings import GUESTS, KINDS, Piece, braced_of, category, pieces
 from cuts import is_true, leaves
@@ -25,7 +26,33 @@ class Review:
                   self.quiet, self.in_modes, self.unread_bindings, self.stray_bindings,
                   self.unused_rates, self.core_rates, self.type_root, self.loops,
                   self.unused_events, self.no_singles, self.no_effect, self.unreached_events)
-        return [line for group in groups for line in group()] + ["end"]
+        return [f"{line} {self.place_text(place)}" for group in groups
+                for line, place in group()] + ["end"]
+
+    # Places
+
+    def place_text(self, place):
+        """`FILE:LINE:COLUMN`: lines and columns from 1, columns in characters of UTF-8."""
+        path, data = self.facts.files[place[0]]
+        begin = data.rfind(b"\n", 0, place[1]) + 1
+        characters = sum(not 128 <= byte < 192 for byte in data[begin:place[1] + 1])
+        return f"{path}:{data.count(10, 0, place[1]) + 1}:{max(1, characters)}"
+
+    def side_place(self, side):
+        """Where a side is declared: by a propagation, or else by its feature or point."""
+        number, direction, point = side
+        places = self.facts.parts[number].places
+        return places.get((direction, point)) or places["point", point]
+
+    def fact_place(self, fact):
+        """Where a state or the side of a fact is declared."""
+        if fact[1] == "state":
+            return self.facts.parts[fact[0]].states[fact[2]].place
+        return self.side_place(fact[:3])
+
+    def event_place(self, event):
+        """Where an event is declared."""
+        return self.facts.parts[event[0]].places[event[1], event[2]]
 
     # What lines are made of
 
@@ -105,7 +132,7 @@ class Review:
                         if not self.event_makes(event, side + (number,))]
             if lost:
                 yield (f"hidden-source {part.path}/{flow.name} at "
-                       + self.with_types(side, set(lost)))
+                       + self.with_types(side, set(lost)), flow.place)
 
     def hidden_paths(self):
         """`hidden-path OWNER/NAME at SIDE{TYPES}`."""
@@ -117,7 +144,8 @@ class Review:
                     if (flow.target_set or end == number)
                     and not self.fact_makes(start + (number,), part, side + (end,))}
             if lost:
-                yield f"hidden-path {part.path}/{flow.name} at {self.with_types(side, lost)}"
+                yield (f"hidden-path {part.path}/{flow.name} at {self.with_types(side, lost)}",
+                       flow.place)
 
     def coming(self, start):
         """The types that may come along the links of a side."""
@@ -133,7 +161,7 @@ class Review:
                             start + (number,), part, goal + (number,))]
                 if lost:
                     yield (f"hidden-link {self.side_name(start)} -> "
-                           + self.with_types(goal, lost))
+                           + self.with_types(goal, lost), self.side_place(goal))
 
     def hidden_transitions(self):
         """`hidden-transitions OWNER N`."""
@@ -143,7 +171,7 @@ class Review:
             count = sum(any(not part.states[goal.name].initial for goal in item.goals)
                         for item in items)
             if part.composites and count:
-                yield f"hidden-transitions {part.path} {count}"
+                yield f"hidden-transitions {part.path} {count}", part.composites[0][0].place
 
     def not_declared(self):
         """`not-declared SIDE{TYPES} -> SIDE`."""
@@ -152,7 +180,7 @@ class Review:
                 lost = set(self.coming(start)) - set(self.types_of(goal))
                 if lost:
                     yield (f"not-declared {self.with_types(start, lost)} -> "
-                           + self.side_name(goal))
+                           + self.side_name(goal), self.side_place(goal))
 
     def stops_here(self):
         """`stops-here SIDE{TYPES}`."""
@@ -162,7 +190,7 @@ class Review:
                      if flow.kind == "sink" and flow.point[0].text == point]
             types = set() if sinks else self.stopped(side)
             if types:
-                yield f"stops-here {self.with_types(side, types)}"
+                yield f"stops-here {self.with_types(side, types)}", self.side_place(side)
 
     def stopped(self, side):
         """The types that may come in at a side, occur in no formula, and are taken by no path
@@ -184,29 +212,29 @@ class Review:
             types = {number for number in self.coming(side)
                      if ("fact", side + (number,)) not in self.used}
             if types and side[0] != 0:
-                yield f"goes-nowhere {self.with_types(side, types)}"
+                yield f"goes-nowhere {self.with_types(side, types)}", self.side_place(side)
 
     def no_links(self):
         """`no-link OWNER/NAME`."""
-        for part, name, ends, links in self.facts.given:
+        for part, item, ends, links in self.facts.given:
             sides = [(other.number, direction, point)
                      for other, point in [end for end in ends if end] if point in other.sides
                      for direction in ("in", "out")]
             if not links and any(self.has_declared_types(side) for side in sides):
-                yield f"no-link {part.path}/{name}"
+                yield f"no-link {part.path}/{item.name}", item.place
 
     def open_sides(self):
         """`open SIDE{TYPES}`."""
         for side in self.sides("in"):
             if self.has_declared_types(side) and side not in self.facts.incoming:
-                yield f"open {self.with_types(side, self.types_of(side))}"
+                yield f"open {self.with_types(side, self.types_of(side))}", self.side_place(side)
 
     def dry_sides(self):
         """`dry SIDE{TYPES}`: all declared types of the side, where none of them may come."""
         for side in self.sides("in"):
             if (self.has_declared_types(side) and side in self.facts.incoming
                     and not self.coming(side)):
-                yield f"dry {self.with_types(side, self.types_of(side))}"
+                yield f"dry {self.with_types(side, self.types_of(side))}", self.side_place(side)
 
     def no_sources(self):
         """`no-source SIDE`."""
@@ -218,7 +246,7 @@ class Review:
             occurs = any(("fact", side + (number,)) in self.used
                          for number in self.types_of(side))
             if any(to_types) or (occurs and all(to_types)):
-                yield f"no-source {self.side_name(side)}"
+                yield f"no-source {self.side_name(side)}", self.side_place(side)
 
     def never(self):
         """`never SIDE{TYPES}`, and behind all of these `never FACT` of states of the root."""
@@ -226,45 +254,47 @@ class Review:
             lost = [number for number in self.types_of(side)
                     if side + (number,) not in self.may]
             if self.declared(side) and lost:
-                yield f"never {self.with_types(side, lost)}"
+                yield f"never {self.with_types(side, lost)}", self.side_place(side)
         for fact in self.effects:
             if fact[1] == "state" and fact not in self.may:
-                yield f"never {self.facts.print(fact)}"
+                yield f"never {self.facts.print(fact)}", self.fact_place(fact)
 
     def unused_states(self):
         """`unused-state FACT`."""
         for fact in self.formulas:
             if (fact[0] != 0 and fact[1] == "state" and is_effect(self.facts, fact)
                     and fact in self.may and ("fact", fact) not in self.used):
-                yield f"unused-state {self.facts.print(fact)}"
+                yield f"unused-state {self.facts.print(fact)}", self.fact_place(fact)
 
     def in_modes(self):
         """`in-modes OWNER/NAME`: members by their nearest declaration, then properties."""
         for part in self.facts.parts:
-            names = [member.name for member in part.members
+            named = [(member.name, member.place) for member in part.members
                      if member.kind != "features" and has_modes(member.tail)]
-            names += [name for name, tokens, _ in bound(part) if has_modes(tokens)]
-            for name in names:
-                yield f"in-modes {part.path}/{name}"
+            named += [(name, tokens[0].place) for name, tokens, _ in bound(part)
+                      if has_modes(tokens)]
+            for name, place in named:
+                yield f"in-modes {part.path}/{name}", place
 
     def unread_bindings(self):
         """`unread-binding OWNER NAME`."""
         for part in self.facts.parts:
             for name, tokens, member in bound(part):
                 if not is_read(tokens, member, self.facts.profile):
-                    yield f"unread-binding {part.path} {name}"
+                    yield f"unread-binding {part.path} {name}", tokens[0].place
 
     def stray_bindings(self):
         """`stray-binding OWNER PATH`: of sections, and then of braces, which profile 2 reads."""
         second = self.facts.profile == 2
         for part in self.facts.parts:
-            for kind, references, targets in part.bindings + (braced_of(part) if second else []):
+            for binding in part.bindings + (braced_of(part) if second else []):
+                kind, references, targets = binding
                 if not second and kind not in KINDS:
                     continue
                 strays = [path for path in targets if not self.may_be_bound(part, kind, path)]
                 strays += [path for path in references if not self.facts.below(part, path)]
                 for path in strays:
-                    yield f"stray-binding {part.path} {'.'.join(path)}"
+                    yield f"stray-binding {part.path} {'.'.join(path)}", binding.place
 
     def may_be_bound(self, part, kind, path):
         """Does a path lead to what a binding of a kind binds?"""
@@ -292,7 +322,7 @@ class Review:
                 paths = [path for path in item.targets if path and path not in known[part.path]]
                 texts = [".".join(path) for path in paths] + item.others
                 for text in texts + ([] if item.targets else ["-"]):
-                    yield f"unused-rate {part.path} {text}"
+                    yield f"unused-rate {part.path} {text}", item.place
 
     def core_rates(self):
         """`unused-rate OWNER core:TARGET`: of sections and braces in core text."""
@@ -302,7 +332,8 @@ class Review:
                     path = applied_text(tokens)
                     said = [member.name] if member else []
                     said += [path] if path is not None else []
-                    yield f"unused-rate {part.path} core:{'.'.join(said or ['-'])}"
+                    yield (f"unused-rate {part.path} core:{'.'.join(said or ['-'])}",
+                           tokens[0].place)
 
     def type_root(self):
         """`type-root root NAME`: the implementations of a root that is a type."""
@@ -312,7 +343,7 @@ class Review:
             for classifier in package.classifiers:
                 if classifier.name == chain[0].name and classifier.item:
                     name = "::".join(package.name + (classifier.name,))
-                    yield f"type-root root {name}.{classifier.item}"
+                    yield f"type-root root {name}.{classifier.item}", classifier.place
 
     def loops(self):
         """`loop N FACT`."""
@@ -321,7 +352,7 @@ class Review:
         for fact in self.formulas:
             loop = {other for other in reached[fact] if fact in reached[other]}
             if loop and fact not in told:
-                yield f"loop {len(loop)} {self.facts.print(fact)}"
+                yield f"loop {len(loop)} {self.facts.print(fact)}", self.fact_place(fact)
                 told |= loop
 
     def reached(self, fact):
@@ -338,7 +369,7 @@ class Review:
         """`unused-event EVENT`."""
         for event in self.facts.events:
             if event[1] == "error" and ("event", event) not in self.used:
-                yield f"unused-event {self.facts.print(event)}"
+                yield f"unused-event {self.facts.print(event)}", self.event_place(event)
 
     def no_singles(self):
         """`no-single EVENT`."""
@@ -346,12 +377,12 @@ class Review:
         for event in self.facts.events:
             if ("event", event) in self.used:
                 if rounds(self.facts, {event}).keys() <= always.keys():
-                    yield f"no-single {self.facts.print(event)}"
+                    yield f"no-single {self.facts.print(event)}", self.event_place(event)
 
     def no_effect(self):
         """`no-effect root`."""
         if not self.effects:
-            yield "no-effect root"
+            yield "no-effect root", self.facts.parts[0].chain[0].place
 
     def unreached_events(self):
         """`unreached-event EVENT`."""
@@ -360,7 +391,7 @@ class Review:
         for event in self.facts.events:
             leaf = ("event", event)
             if self.effects and leaf in self.used and leaf not in reached:
-                yield f"unreached-event {self.facts.print(event)}"
+                yield f"unreached-event {self.facts.print(event)}", self.event_place(event)
 
     # Lines on what is used otherwise than what stands beside it
 
@@ -372,7 +403,8 @@ class Review:
             if goal[1] != "in":
                 continue
             if (start, goal[0]) in ways and (start, goal) not in known:
-                yield f"two-ways {self.side_name(start)} -> {self.side_name(goal)}"
+                yield (f"two-ways {self.side_name(start)} -> {self.side_name(goal)}",
+                       self.side_place(goal))
             ways.add((start, goal[0]))
             known.add((start, goal))
 
@@ -393,7 +425,8 @@ class Review:
                     beside = (other.number,) + fact[1:]
                     if (other.parent is part.parent and other.chain
                             and other.chain[0] is part.chain[0] and beside not in found):
-                        yield f"unlike {self.facts.print(beside)} in {self.facts.print(goal)}"
+                        yield (f"unlike {self.facts.print(beside)} in {self.facts.print(goal)}",
+                               self.fact_place(beside))
 
     def quiet(self):
         """`quiet FACT at SIDE`: a state that occurs in no formula at a declared outward side, and
@@ -408,7 +441,8 @@ class Review:
                 for number in self.types_of(side))]
             for side in sides:
                 if shown and side not in shown and self.has_declared_types(side):
-                    yield f"quiet {self.facts.print(fact)} at {self.side_name(side)}"
+                    yield (f"quiet {self.facts.print(fact)} at {self.side_name(side)}",
+                           self.fact_place(fact))
 
     def sink_leaves(self):
         """`sink-leaves SIDE{TYPES}`."""
@@ -420,7 +454,7 @@ class Review:
             for flow in sinks:
                 types -= set(self.selected(part, flow.point, flow.set, "in")[1])
             if types:
-                yield f"sink-leaves {self.with_types(side, types)}"
+                yield f"sink-leaves {self.with_types(side, types)}", self.side_place(side)
 
 
 def places(formula):

@@ -106,6 +106,11 @@ def inputs_of_one_output(size):
     return package(parts + f"system s end s; system implementation s.i subcomponents d: device d; r: device r; connections\n{wires}end s.i;\n")
 
 
+def in_one_line(size):
+    """The same in a text of one line, in which the place of each finding is a column."""
+    return inputs_of_one_output(size).replace("\n", " ")
+
+
 SHAPES = {
     "a chain of states": ("p::s.i", chain_of_states, [100, 200, 400, 800]),
     "parts in a row": ("p::s.i", parts_in_a_row, [500, 1000, 2000, 4000]),
@@ -113,6 +118,7 @@ SHAPES = {
     "units in clauses": ("p::s.i", units_in_clauses, [400, 800, 1600, 3200]),
     "states at outputs": ("p::d", states_at_outputs, [100, 200, 400, 800]),
     "inputs of one output": ("p::s.i", inputs_of_one_output, [1000, 2000, 4000, 8000]),
+    "the same in one line": ("p::s.i", in_one_line, [1000, 2000, 4000, 8000]),
 }
 
 

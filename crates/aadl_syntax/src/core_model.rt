@@ -62,10 +62,11 @@ pub struct Decl {
 }
 
 /// A binding, as a `properties` section states it: to each of some components, of each of some others, or of each of some
-/// connections. All are paths from the component that states it.
+/// connections. All are paths from the component that states it. The spot is that of its first word.
 #[derive(Drop)]
 pub struct Binding {
     pub kind: BindingKind,
+    pub spot: Spot,
     pub references: List<List<Identifier>>,
     pub targets: List<List<Identifier>>,
 }

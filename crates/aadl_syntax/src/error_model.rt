@@ -247,6 +247,7 @@ pub struct UserPath {
 #[derive(Drop)]
 pub struct Association {
     pub name: List<Identifier>,
+    pub spot: Spot,
     pub value: TokenList,
     pub targets: List<List<Identifier>>,
     pub others: List<OtherTarget>,

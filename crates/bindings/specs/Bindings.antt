@@ -9,7 +9,7 @@ use Rattle.grammar_rules.specs.Parts.{parts_after}
 use Rattle.grammar_rules.specs.Rules.{Rule, chooses, ends, gives, ◌>>=◌}
 use Rattle.grammar_rules.specs.Running.{Outcome, read, dead, run}
 use Rattle.grammar_rules.specs.Spans.{tail_end}
-use Rattle.grammar_rules.specs.Tokens.{identifier, is_sign, is_word, sign, word}
+use Rattle.grammar_rules.specs.Tokens.{identifier, is_sign, is_word, sign, spot, word}
 use Rattle.bindings.specs.Pieces.{behind_brace, section_pieces}
 
 -- ---- paths of components
@@ -135,38 +135,39 @@ binding_targets false = applied_targets
 -- binding-name "=>" references binding-targets [ "in" tail ] ";", and nothing behind it
 unfoldable pub binding : Bool → Rule Binding
 binding braced = do
+  its_spot ← spot
   kind ← binding_name
   _ ← sign (codes "=>")
   its_references ← references
   its_targets ← binding_targets braced
   _ ← binding_end
   _ ← ends
-  gives (record { kind = kind; references = its_references; targets = its_targets })
+  gives (record { kind = kind; spot = its_spot; references = its_references; targets = its_targets })
 
 -- the binding of a reading, if there is one
 abbrev pub binding_read : Outcome Binding → Option Binding
 binding_read (read its rest unseen) = Some its
 binding_read (dead unseen) = None
 
--- The binding as which a piece of a section, or of what stands in braces, reads, if it reads so.
-abbrev pub piece_binding : Bool → List Token → Option Binding
-piece_binding braced tokens = binding_read (run 0 (binding braced) tokens (suc (length tokens)))
+-- The binding as which a piece of a section of a file, or of what stands in braces there, reads, if it reads so.
+abbrev pub piece_binding : ℕ → Bool → List Token → Option Binding
+piece_binding file braced tokens = binding_read (run file (binding braced) tokens (suc (length tokens)))
 
--- The bindings that a `properties` section of a classifier states, in their order; its other pieces say nothing.
-abbrev pub bindings_in : List Token → List Binding
-bindings_in tokens = flat_map (λ piece. option_to_list (piece_binding false piece)) (section_pieces tokens)
+-- The bindings that a `properties` section of a classifier in a file states, in their order; its other pieces say nothing.
+abbrev pub bindings_in : ℕ → List Token → List Binding
+bindings_in file tokens = flat_map (λ piece. option_to_list (piece_binding file false piece)) (section_pieces tokens)
 
 -- ---- braces
 
 -- a binding as it is stated around the member of this name, behind which it stands: its targets are in that, or that itself
 abbrev pub around : List ℕ → Binding → Binding
-around name binding = record { kind = binding.kind; references = binding.references; targets = map (λ target. name ∷ target) binding.targets }
+around name binding = record { kind = binding.kind; spot = binding.spot; references = binding.references; targets = map (λ target. name ∷ target) binding.targets }
 
--- the binding of a piece that stands in braces behind the member of this name, if it reads as one
-abbrev pub braced_binding : List ℕ → List Token → Option Binding
-braced_binding name piece = option_map (around name) (piece_binding true piece)
+-- the binding of a piece that stands in braces behind the member of this name in a file, if it reads as one
+abbrev pub braced_binding : ℕ → List ℕ → List Token → Option Binding
+braced_binding file name piece = option_map (around name) (piece_binding file true piece)
 
--- The bindings that stand in braces among the tokens behind a subcomponent or a connection of this name, in their order, as bindings of
+-- The bindings that stand in braces among the tokens behind a subcomponent or a connection of this name in a file, in their order, as bindings of
 -- the classifier that declares it; the other pieces there say nothing.
-abbrev pub braced_bindings : List ℕ → List Token → List Binding
-braced_bindings name tokens = flat_map (λ piece. option_to_list (braced_binding name piece)) (section_pieces (behind_brace tokens))
+abbrev pub braced_bindings : ℕ → List ℕ → List Token → List Binding
+braced_bindings file name tokens = flat_map (λ piece. option_to_list (braced_binding file name piece)) (section_pieces (behind_brace tokens))

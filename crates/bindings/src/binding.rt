@@ -4,25 +4,35 @@ ghost use Rattle.bindings.specs.Bindings.{applied_targets, binding, binding_name
 
 use crate::piece::section_pieces;
 use aadl_syntax::{Binding, BindingKind, Identifier, TokenList, TokenSlice};
-use grammar_rules::{Parts, ReadError, Reader, tail_end};
+use grammar_rules::{Parts, ReadError, Reader, spot, tail_end};
 use plain_values::{List, Mem};
 use std::alloc::{AllocError, Global};
 
-/// Adds the bindings that the tokens of a `properties` section state, in their order. Its other pieces say nothing.
-pub fn add_bindings(alloc: Global, tokens: &TokenList, bindings: &mut List<Binding>) -> Mem<()>
-    ensures { OnOk result (bindings.new ≡ bindings.old ++ bindings_in tokens.now) }
+/// Adds the bindings that the tokens of a `properties` section of a file state, in their order. Its other pieces say nothing.
+pub fn add_bindings(
+    alloc: Global,
+    file: u32,
+    tokens: &TokenList,
+    bindings: &mut List<Binding>,
+) -> Mem<()>
+    ensures { OnOk result (bindings.new ≡ bindings.old ++ bindings_in file tokens.now) }
 {
     for piece in section_pieces(alloc, TokenSlice::of(tokens))?.items() {
-        bindings.push_some(piece_binding(alloc, false, piece)?)?;
+        bindings.push_some(piece_binding(alloc, file, false, piece)?)?;
     }
     Ok(())
 }
 
-/// The binding as which a piece of a section, or of what stands in braces, reads, if it reads so.
-pub fn piece_binding(alloc: Global, braced: bool, piece: &TokenList) -> Mem<Option<Binding>>
-    ensures { IfOk result (λ binding. binding ≡ piece_binding braced piece.now) }
+/// The binding as which a piece of a section of a file, or of what stands in braces there, reads, if it reads so.
+pub fn piece_binding(
+    alloc: Global,
+    file: u32,
+    braced: bool,
+    piece: &TokenList,
+) -> Mem<Option<Binding>>
+    ensures { IfOk result (λ binding. binding ≡ piece_binding file braced piece.now) }
 {
-    let mut reader = Reader::new(alloc, 0, piece);
+    let mut reader = Reader::new(alloc, file, piece);
     match binding(&mut reader, braced) {
         Ok(binding) => Ok(Some(binding)),
         Err(ReadError::Refused) => Ok(None),
@@ -34,6 +44,7 @@ pub fn piece_binding(alloc: Global, braced: bool, piece: &TokenList) -> Mem<Opti
 fn binding(reader: &mut Reader, braced: bool) -> Result<Binding, ReadError>
     ensures { Gives result (binding braced) reader.old reader.new }
 {
+    let spot = spot(reader)?;
     let kind = binding_name(reader)?;
     reader.sign(b"=>")?;
     let references = references(reader)?;
@@ -42,6 +53,7 @@ fn binding(reader: &mut Reader, braced: bool) -> Result<Binding, ReadError>
     reader.end()?;
     Ok(Binding {
         kind,
+        spot,
         references,
         targets,
     })

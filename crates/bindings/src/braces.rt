@@ -11,23 +11,29 @@ use std::alloc::Global;
 /// bindings of the classifier that declares it. The other pieces there say nothing.
 pub fn add_braced(
     alloc: Global,
+    file: u32,
     name: &Identifier,
     tail: &TokenList,
     bindings: &mut List<Binding>,
 ) -> Mem<()>
-    ensures { OnOk result (bindings.new ≡ bindings.old ++ braced_bindings name.now tail.now) }
+    ensures { OnOk result (bindings.new ≡ bindings.old ++ braced_bindings file name.now tail.now) }
 {
     for piece in section_pieces(alloc, behind_brace(tail))?.items() {
-        bindings.push_some(braced_binding(alloc, name, piece)?)?;
+        bindings.push_some(braced_binding(alloc, file, name, piece)?)?;
     }
     Ok(())
 }
 
 /// The binding of a piece that stands in braces behind the member of this name, if it reads as one.
-fn braced_binding(alloc: Global, name: &Identifier, piece: &TokenList) -> Mem<Option<Binding>>
-    ensures { IfOk result (λ binding. binding ≡ braced_binding name.now piece.now) }
+fn braced_binding(
+    alloc: Global,
+    file: u32,
+    name: &Identifier,
+    piece: &TokenList,
+) -> Mem<Option<Binding>>
+    ensures { IfOk result (λ binding. binding ≡ braced_binding file name.now piece.now) }
 {
-    match piece_binding(alloc, true, piece)? {
+    match piece_binding(alloc, file, true, piece)? {
         Some(binding) => Ok(Some(around(alloc, name, binding)?)),
         None => Ok(None),
     }
@@ -40,6 +46,7 @@ fn around(alloc: Global, name: &Identifier, binding: Binding) -> Mem<Binding>
     let targets = targets_behind(alloc, name, binding.targets.items())?;
     Ok(Binding {
         kind: binding.kind,
+        spot: binding.spot,
         references: binding.references,
         targets,
     })

@@ -78,13 +78,13 @@ spots_of spots clauses = flat_map (λ clause. spots clause.item) clauses
 
 -- The bindings of a chain, from the farthest classifier to the nearest, each in the order of its text.
 abbrev pub bindings_along : List Class → List Binding
-bindings_along classes = flat_map (λ class. flat_map bindings_in class.item.properties) classes
+bindings_along classes = flat_map (λ class. flat_map (bindings_in class.item.spot.file) class.item.properties) classes
 
 -- the bindings that stand in braces behind the members of a declaration: its subcomponents, and then its connections
 abbrev pub braced_in : Decl → List Binding
 braced_in decl =
-    flat_map (λ subcomponent. braced_bindings subcomponent.name subcomponent.tail) decl.subcomponents
-    ++ flat_map (λ connection. braced_bindings connection.name connection.tail) decl.connections
+    flat_map (λ subcomponent. braced_bindings subcomponent.spot.file subcomponent.name subcomponent.tail) decl.subcomponents
+    ++ flat_map (λ connection. braced_bindings connection.spot.file connection.name connection.tail) decl.connections
 
 -- The bindings that stand in braces behind the members of a chain, from the farthest classifier to the nearest: those of a refinement stand
 -- behind those of what it refines.

@@ -14,16 +14,27 @@ pub fn bindings_along(alloc: Global, classifiers: &[Classifier<'_>]) -> Mem<List
 {
     let mut bindings = List::new(alloc);
     for classifier in classifiers {
-        add_stated(alloc, classifier.item().properties.items(), &mut bindings)?;
+        let decl = classifier.item();
+        add_stated(
+            alloc,
+            decl.spot.file,
+            decl.properties.items(),
+            &mut bindings,
+        )?;
     }
     Ok(bindings)
 }
 
-fn add_stated(alloc: Global, sections: &[TokenList], bindings: &mut List<Binding>) -> Mem<()>
-    ensures { OnOk result (bindings.new ≡ bindings.old ++ flat_map bindings_in sections.now) }
+fn add_stated(
+    alloc: Global,
+    file: u32,
+    sections: &[TokenList],
+    bindings: &mut List<Binding>,
+) -> Mem<()>
+    ensures { OnOk result (bindings.new ≡ bindings.old ++ flat_map (bindings_in file) sections.now) }
 {
     for section in sections {
-        add_bindings(alloc, section, bindings)?;
+        add_bindings(alloc, file, section, bindings)?;
     }
     Ok(())
 }
@@ -52,10 +63,16 @@ fn add_of_subcomponents(
     subcomponents: &[Subcomponent],
     bindings: &mut List<Binding>,
 ) -> Mem<()>
-    ensures { OnOk result (bindings.new ≡ bindings.old ++ flat_map (λ subcomponent. braced_bindings subcomponent.name subcomponent.tail) subcomponents.now) }
+    ensures { OnOk result (bindings.new ≡ bindings.old ++ flat_map (λ subcomponent. braced_bindings subcomponent.spot.file subcomponent.name subcomponent.tail) subcomponents.now) }
 {
     for subcomponent in subcomponents {
-        add_braced(alloc, &subcomponent.name, &subcomponent.tail, bindings)?;
+        add_braced(
+            alloc,
+            subcomponent.spot.file,
+            &subcomponent.name,
+            &subcomponent.tail,
+            bindings,
+        )?;
     }
     Ok(())
 }
@@ -65,10 +82,16 @@ fn add_of_connections(
     connections: &[Connection],
     bindings: &mut List<Binding>,
 ) -> Mem<()>
-    ensures { OnOk result (bindings.new ≡ bindings.old ++ flat_map (λ connection. braced_bindings connection.name connection.tail) connections.now) }
+    ensures { OnOk result (bindings.new ≡ bindings.old ++ flat_map (λ connection. braced_bindings connection.spot.file connection.name connection.tail) connections.now) }
 {
     for connection in connections {
-        add_braced(alloc, &connection.name, &connection.tail, bindings)?;
+        add_braced(
+            alloc,
+            connection.spot.file,
+            &connection.name,
+            &connection.tail,
+            bindings,
+        )?;
     }
     Ok(())
 }

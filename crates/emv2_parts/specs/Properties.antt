@@ -5,7 +5,7 @@ use Rattle.aadl_syntax.specs.declared.error_model.Association.{Association}
 use Rattle.grammar_rules.specs.Rules.{Test, Rule, gives, refuses, chooses, gathers, ◌>>=◌}
 use Rattle.grammar_rules.specs.Parts.{parts_after}
 use Rattle.grammar_rules.specs.Spans.{until_inside, closes}
-use Rattle.grammar_rules.specs.Tokens.{word, sign, one_of, is_word, is_sign, is_one_of}
+use Rattle.grammar_rules.specs.Tokens.{word, sign, spot, one_of, is_word, is_sign, is_one_of}
 use Rattle.emv2_parts.specs.declared.properties.AssignedTargets.{AssignedTargets}
 use Rattle.emv2_parts.specs.declared.properties.AssignedValue.{AssignedValue}
 use Rattle.emv2_parts.specs.declared.properties.PathForm.{PathForm}
@@ -193,9 +193,10 @@ assigned_value = do
 -- assoc = names ( "=>" | "+=>" ) value [ "applies" "to" tpath { "," tpath } ] ";"
 unfoldable pub association : Rule Association
 association = do
+  its_spot ← spot
   name ← names
   what ← assigned_value
-  gives (record { name = name; value = what.value; targets = what.targets.plain; others = what.targets.others })
+  gives (record { name = name; spot = its_spot; value = what.value; targets = what.targets.plain; others = what.targets.others })
 
 -- "properties" { assoc }, after other associations
 unfoldable pub properties_after : List Association → Rule (List Association)

@@ -10,7 +10,7 @@ ghost use Rattle.emv2_parts.specs.inner.Takes.{path_step-takes, further_target-t
 use crate::naming::names;
 use crate::words::{error_name, name_at, point_at, point_name, point_word_at};
 use aadl_syntax::{Association, Identifier, OtherTarget, TokenList, TokenRef};
-use grammar_rules::{Gathered, Parts, ReadError, Reader, Span, closes, is_sign, is_word};
+use grammar_rules::{Gathered, Parts, ReadError, Reader, Span, closes, is_sign, is_word, spot};
 use plain_values::{List, Mem, Name};
 
 /// What a path is as far as it is read.
@@ -370,11 +370,13 @@ fn assigned_value(reader: &mut Reader) -> Result<AssignedValue, ReadError>
 fn association(reader: &mut Reader) -> Result<Association, ReadError>
     ensures { Gives result association reader.old reader.new }
 {
+    let spot = spot(reader)?;
     let name = names(reader)?;
     let AssignedValue { value, targets } = assigned_value(reader)?;
     let AssignedTargets { plain, others } = targets;
     Ok(Association {
         name,
+        spot,
         value,
         targets: plain,
         others,

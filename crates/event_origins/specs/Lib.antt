@@ -1,4 +1,5 @@
 pub mod Named
 pub mod Declarations
 pub mod Origins
+pub mod Places
 pub mod inner

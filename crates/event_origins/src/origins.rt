@@ -25,7 +25,7 @@ pub fn origins_of(alloc: Global, assembly: &Assembly, events: &[EventKey]) -> Me
 }
 
 /// Of which kind an event is, and where its declaration stands, where its kind of component has these declarations.
-fn origin_of(
+pub(crate) fn origin_of(
     alloc: Global,
     assembly: &Assembly,
     kinds: &[Declarations],

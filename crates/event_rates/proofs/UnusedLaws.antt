@@ -9,18 +9,18 @@ use Rattle.package_index.specs.inner.Names.{names_of}
 use Rattle.package_index.specs.inner.Tables.{same_words}
 use Rattle.instantiator.specs.declared.path.Component.{Component}
 use Rattle.instantiator.specs.Whole.{Instance}
-use Rattle.event_rates.specs.Unused.{rates_at, unused_at, unused_in}
+use Rattle.event_rates.specs.Unused.{unused_at, unused_in}
 use Rattle.event_rates.specs.declared.unused.UnusedRate.{UnusedRate}
 use Rattle.event_rates.specs.inner.Known.{KnowsNames}
 
 pub unused-more : (names : List (List (List ℕ))) (instance : Instance) (i : ℕ) → i < length instance.components → (before after : List UnusedRate)
-    → before ≡ numbered_from (unused_at names instance) 0 (take i instance.components) → after ≡ before ++ rates_at i (unused_in names instance i)
+    → before ≡ numbered_from (unused_at names instance) 0 (take i instance.components) → after ≡ before ++ unused_in names instance i
     → after ≡ numbered_from (unused_at names instance) 0 (take (i + 1) instance.components)
 unused-more names instance i within before after had adds =
     let all = instance.components in
     let none : Component = record { path = []; classifier = None } in
     let component : Component = get_or all i none in
-    adds ∙ ap (λ front. front ++ rates_at i (unused_in names instance i)) had
+    adds ∙ ap (λ front. front ++ unused_in names instance i) had
     ∙ sym (numbered-more (unused_at names instance) all i component within (get_or_default all i none component within))
 
 -- a name that is put into a set

@@ -5,6 +5,7 @@ use Rattle.aadl_syntax.specs.declared.error_model.Association.{Association}
 use Rattle.aadl_syntax.specs.declared.error_model.OtherTarget.{OtherTarget}
 use Rattle.fault_system.specs.declared.formula.EventInfo.{EventInfo}
 use Rattle.plain_values.specs.Numbered.{numbered_from}
+use Rattle.plain_values.specs.declared.spot.Spot.{Spot}
 use Rattle.package_index.specs.Names.{is_same_name}
 use Rattle.component_extension.specs.declared.effective.Effective.{Effective}
 use Rattle.error_models.specs.Below.{machine_of}
@@ -42,23 +43,27 @@ said_of_none names path association =
 abbrev pub unused_targets : List (List (List ℕ)) → List (List ℕ) → Association → List (List (List ℕ))
 unused_targets names path association = cond (is_distribution association.name) (said_of_none names path association) []
 
+-- targets of an association that stands at this place, of the component of a number
+abbrev pub rates_at : ℕ → Spot → List (List (List ℕ)) → List UnusedRate
+rates_at number spot targets = map (λ target. record { component = number; target = target; spot = spot }) targets
+
+-- those of an association of the component of a number
+abbrev pub unused_said : List (List (List ℕ)) → ℕ → List (List ℕ) → Association → List UnusedRate
+unused_said names number path association = rates_at number association.spot (unused_targets names path association)
+
 -- those of some associations
-abbrev pub unused_among : List (List (List ℕ)) → List (List ℕ) → List Association → List (List (List ℕ))
-unused_among names path associations = flat_map (unused_targets names path) associations
+abbrev pub unused_among : List (List (List ℕ)) → ℕ → List (List ℕ) → List Association → List UnusedRate
+unused_among names number path associations = flat_map (unused_said names number path) associations
 
 -- those of the clauses of a component, and then of its machine
-abbrev pub unused_in : List (List (List ℕ)) → Instance → ℕ → List (List (List ℕ))
+abbrev pub unused_in : List (List (List ℕ)) → Instance → ℕ → List UnusedRate
 unused_in names instance number =
-    unused_among names (path_in instance number) (clause_associations (effective_in instance number))
-    ++ unused_among names (path_in instance number) (machine_associations (machine_of instance.packages (effective_in instance number)))
-
--- targets, of the component of a number
-abbrev pub rates_at : ℕ → List (List (List ℕ)) → List UnusedRate
-rates_at number targets = map (λ target. record { component = number; target = target }) targets
+    unused_among names number (path_in instance number) (clause_associations (effective_in instance number))
+    ++ unused_among names number (path_in instance number) (machine_associations (machine_of instance.packages (effective_in instance number)))
 
 -- those of the component of a number
 abbrev pub unused_at : List (List (List ℕ)) → Instance → ℕ → Component → List UnusedRate
-unused_at names instance number component = rates_at number (unused_in names instance number)
+unused_at names instance number component = unused_in names instance number
 
 -- The targets of associations of rates that name no event of a model, one component after the other (EMV2: `OccurrenceDistribution`).
 abbrev pub unused_rates : Instance → List EventInfo → List UnusedRate

@@ -11,17 +11,18 @@ use aadl_syntax::{Association, Identifier, OtherTarget};
 use fault_system::EventInfo;
 use instantiator::Instance;
 use package_index::Words;
-use plain_values::{List, Mem, Name, copied};
+use plain_values::{List, Mem, Name, Spot, copied};
 use std::alloc::Global;
 use std::collections::HashSet;
 use std::marker::Model;
 
 /// A target of an association of rates that names no event: the component whose clauses or whose machine has it, and its names, a path from
-/// the component and the key of an event.
+/// the component and the key of an event. The spot is that of the association.
 #[derive(Drop)]
 pub struct UnusedRate {
     pub component: u32,
     pub target: List<Name>,
+    pub spot: Spot,
 }
 
 impl UnusedRate {
@@ -32,6 +33,7 @@ impl UnusedRate {
         Ok(UnusedRate {
             component: self.component,
             target: names_again(alloc, self.target.items())?,
+            spot: self.spot,
         })
     }
 }
@@ -114,7 +116,7 @@ fn all_unused(alloc: Global, tables: &Tables, names: &EventNames) -> Mem<List<Un
     Ok(rates)
 }
 
-/// Adds those of the component of a number.
+/// Adds those of the component of a number: the targets of its clauses, and of its machine, that name no event.
 fn add_component(
     rates: &mut List<UnusedRate>,
     alloc: Global,
@@ -122,92 +124,84 @@ fn add_component(
     names: &EventNames,
     number: u32,
 ) -> Mem<()>
-    ensures { OnOk result (rates.new ≡ rates.old ++ rates_at number (unused_in names.now tables.now number)) }
-{
-    let targets = unused_in(alloc, tables, names, number)?;
-    add_rates(rates, alloc, number, targets.items())
-}
-
-fn add_rates(
-    rates: &mut List<UnusedRate>,
-    alloc: Global,
-    number: u32,
-    targets: &[List<Name>],
-) -> Mem<()>
-    ensures { OnOk result (rates.new ≡ rates.old ++ rates_at number targets.now) }
-{
-    for target in targets {
-        let target = names_again(alloc, target.items())?;
-        rates.push(UnusedRate {
-            component: number,
-            target,
-        })?;
-    }
-    Ok(())
-}
-
-/// The targets of the clauses of a component, and of its machine, that name no event.
-fn unused_in(
-    alloc: Global,
-    tables: &Tables,
-    names: &EventNames,
-    number: u32,
-) -> Mem<List<List<Name>>>
-    ensures { IfOk result (λ targets. targets ≡ unused_in names.now tables.now number) }
+    ensures { OnOk result (rates.new ≡ rates.old ++ unused_in names.now tables.now number) }
 {
     let path = tables.path(number);
-    let mut targets = List::new(alloc);
-    add_of(&mut targets, alloc, names, path, tables.clauses_of(number))?;
-    add_of(&mut targets, alloc, names, path, tables.machine_of(number))?;
-    Ok(targets)
+    let (clauses, machine) = (tables.clauses_of(number), tables.machine_of(number));
+    add_of(rates, alloc, names, number, path, clauses)?;
+    add_of(rates, alloc, names, number, path, machine)
 }
 
 /// Adds those of a table, if there is one.
 fn add_of(
-    targets: &mut List<List<Name>>,
+    rates: &mut List<UnusedRate>,
     alloc: Global,
     names: &EventNames,
+    number: u32,
     path: &[&Identifier],
     table: Option<&AssociationTable>,
 ) -> Mem<()>
-    ensures { OnOk result (targets.new ≡ targets.old ++ unused_among names.now (map (λ name. name.now) path.now) (unwrap_or (option_copied table.entry) [])) }
+    ensures { OnOk result (rates.new ≡ rates.old ++ unused_among names.now number (map (λ name. name.now) path.now) (unwrap_or (option_copied table.entry) [])) }
 {
     match table {
-        Some(table) => add_among(targets, alloc, names, path, table.list()),
+        Some(table) => add_among(rates, alloc, names, number, path, table.list()),
         None => Ok(()),
     }
 }
 
 /// Adds the targets of some associations that name no event, from the component of this path on.
 fn add_among(
-    targets: &mut List<List<Name>>,
+    rates: &mut List<UnusedRate>,
     alloc: Global,
     names: &EventNames,
+    number: u32,
     path: &[&Identifier],
     associations: &[&Association],
 ) -> Mem<()>
-    ensures { OnOk result (targets.new ≡ targets.old ++ unused_among names.now (map (λ name. name.now) path.now) (map (λ association. association.now) associations.now)) }
+    ensures { OnOk result (rates.new ≡ rates.old ++ unused_among names.now number (map (λ name. name.now) path.now) (map (λ association. association.now) associations.now)) }
 {
     for association in associations {
-        add_targets(targets, alloc, names, path, *association)?;
+        let targets = unused_targets(alloc, names, path, *association)?;
+        add_rates(rates, alloc, number, association.spot, targets.items())?;
     }
     Ok(())
 }
 
-/// Adds those of an association, if it gives rates.
-fn add_targets(
-    targets: &mut List<List<Name>>,
+/// Adds targets of an association that stands at this place.
+fn add_rates(
+    rates: &mut List<UnusedRate>,
+    alloc: Global,
+    number: u32,
+    spot: Spot,
+    targets: &[List<Name>],
+) -> Mem<()>
+    ensures { OnOk result (rates.new ≡ rates.old ++ rates_at number spot targets.now) }
+{
+    for target in targets {
+        let target = names_again(alloc, target.items())?;
+        rates.push(UnusedRate {
+            component: number,
+            target,
+            spot,
+        })?;
+    }
+    Ok(())
+}
+
+/// Those of an association, if it gives rates.
+fn unused_targets(
     alloc: Global,
     names: &EventNames,
     path: &[&Identifier],
     association: &Association,
-) -> Mem<()>
-    ensures { OnOk result (targets.new ≡ targets.old ++ unused_targets names.now (map (λ name. name.now) path.now) association.now) }
+) -> Mem<List<List<Name>>>
+    ensures { IfOk result (λ targets. targets ≡ unused_targets names.now (map (λ name. name.now) path.now) association.now) }
 {
-    if !is_distribution(association.name.items()) {
-        return Ok(());
+    let mut targets = List::new(alloc);
+    if is_distribution(association.name.items()) {
+        add_said(&mut targets, alloc, names, path, association)?;
     }
-    add_said(targets, alloc, names, path, association)
+    Ok(targets)
 }
 
 /// Adds the targets of an association that name no event, what is no target, and a dash where there is none.

@@ -25,6 +25,7 @@ use Rattle.profiles.specs.declared.profile.Profile.TheVariants.{First, Second}
 use Rattle.model_phases.specs.Phases.{assembled, flat_phase, origins_phase, review_phase}
 use Rattle.model_phases.specs.declared.events.EventModel.{EventModel}
 use Rattle.event_lines.specs.Text.{events_text as text_of_events}
+use Rattle.finding_lines.specs.Text.{review_text}
 use Rattle.model_phases.specs.declared.flat.FlatModel.{FlatModel}
 use Rattle.fta_words.specs.declared.kind.Kind.TheVariants as kind
 use Rattle.fta_run.specs.Words.{Kind, Request, IsRequest, is_set}
@@ -212,10 +213,10 @@ events_in profile root files texts = do
   model ← made_of_texts origins_phase profile root texts
   events_text files model
 
-abbrev pub review_in : Profile → Root → List (List ℕ) → Phase (List ℕ)
-review_in profile root texts = do
+abbrev pub review_in : Profile → Root → List (List ℕ) → List (List ℕ) → Phase (List ℕ)
+review_in profile root files texts = do
   reviewed ← made_of_texts review_phase profile root texts
-  yields reviewed.text
+  yields (review_text files texts reviewed.lines)
 
 abbrev pub probability_in : Profile → Root → List ℕ → Option (List ℕ) → Bool → List (List ℕ) → Phase (List ℕ)
 probability_in profile root target hours asked texts = do
@@ -279,7 +280,7 @@ text_by profile kind.Why voices asked texts = why_in profile asked.root asked.ta
 text_by profile kind.Confirm voices asked texts = confirmed_in profile asked.root asked.target asked.options.set texts
 text_by profile kind.Targets voices asked texts = targets_in profile asked.root (is_set asked.options (codes "all")) texts
 text_by profile kind.Events voices asked texts = events_in profile asked.root asked.files texts
-text_by profile kind.Review voices asked texts = review_in profile asked.root texts
+text_by profile kind.Review voices asked texts = review_in profile asked.root asked.files texts
 text_by profile kind.Place voices asked texts = place_in asked.files asked.number texts
 text_by profile kind.Manifest voices asked texts = manifest_in profile asked.root asked.files texts
 text_by profile kind.Refusals voices asked texts = refusals_in profile asked.root asked.files texts

@@ -35,6 +35,7 @@ use crate::targets::orders_of;
 use crate::text::numbers_of;
 use cutset_writer::ListingPage;
 use event_lines::events_text;
+use finding_lines::review_text;
 use fta_outside::Report;
 use fta_words::{Form, Kind, Options, Paging, Request};
 use help_texts::{explain_text, help_text, version_text};
@@ -147,7 +148,7 @@ fn answer_by(
         Kind::Confirm => ready_of(confirmation(alloc, profile, root, target, &options.set, texts)),
         Kind::Targets => ready_of(targets(alloc, profile, root, options.is_set(b"all"), texts)),
         Kind::Events => ready_of(events(alloc, profile, root, names, texts)),
-        Kind::Review => ready_of(review(alloc, profile, root, texts)),
+        Kind::Review => ready_of(review(alloc, profile, root, names, texts)),
         Kind::Place => ready_of(place(alloc, names, asked.number, texts)),
         Kind::Manifest => ready_of(manifest(alloc, profile, root, names, texts)),
         Kind::Refusals => ready_of(refusals(alloc, profile, root, names, texts)),
@@ -425,12 +426,19 @@ fn events(
     Ok(Held::Text(text))
 }
 
-/// What the model of a root leaves without effect, and where its errors stop.
-fn review(alloc: Global, profile: Profile, root: &Root, texts: Texts) -> Result<Held, Status>
-    ensures { MeetsBut IsMemory held_text (review_in profile root.now texts) result }
+/// What the model of a root in files of these names leaves without effect, and where its errors stop, each with its place.
+fn review(
+    alloc: Global,
+    profile: Profile,
+    root: &Root,
+    names: &[Word],
+    texts: Texts,
+) -> Result<Held, Status>
+    ensures { MeetsBut IsMemory held_text (review_in profile root.now names.now texts) result }
 {
-    let reviewed: ReviewedModel = model_in(alloc, profile, root, texts)?;
-    Ok(Held::Bytes(reviewed.text))
+    let reviewed: ReviewedModel = made_at(alloc, profile, root, &texts)?;
+    let text = review_text(alloc, names, texts.items(), &reviewed.lines)?;
+    Ok(Held::Text(text))
 }
 
 /// Of which program and of which files of these names a result on the model of a root is.
@@ -479,6 +487,18 @@ fn probability(
     let (system, rates) = (&model.system, model.rates.items());
     let text = system_answers::probability(alloc, system, rates, target, hours, asked)?;
     Ok(Held::Text(text))
+}
+
+/// What is made of the model of a root in files of these texts, which are held on.
+fn made_at<M: FromAssembly>(
+    alloc: Global,
+    profile: Profile,
+    root: &Root,
+    texts: &Texts,
+) -> Result<M, Status>
+    ensures { Meets (made_of_texts M.phase profile root.now texts.now) result }
+{
+    model_of_texts(alloc, profile, root, texts.items())
 }
 
 /// The model of a root in files of these texts, which are held on, as a system.

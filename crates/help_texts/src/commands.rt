@@ -150,8 +150,8 @@ pub const EVENTS: &[u8] =
 pub const REVIEW: &[u8] =
     b"Lists what stands in a model without effect, and where its errors stop: flows and links that a condition\n\
     hides, types that a receiver does not declare, errors that nothing looks at, events that no effect depends\n\
-    on, and what never comes about. No line says that the model is wrong; each may be a slip. The last line is\n\
-    end.\n\
+    on, and what never comes about. Each line ends in the place of what it names, FILE:LINE:COLUMN. None says\n\
+    that the model is wrong; each may be a slip. The last line is end.\n\
     \n\
     --profile 1|2  the first, or the second, which also reads recovery, noerror, orless and more bindings\n\
     \n\
@@ -284,4 +284,4 @@ pub const PROGRAM: &[u8] = b"aadl_fta 0.1.0";
 pub const VERSIONS: &[u8] = b"aadl_fta 0.1.0\n\
     profile 1\n\
     profile 2\n\
-    formats: check 1 cuts 1 tree 1 mef 1 dot 1 fmea 1 report 1 make 1 galileo 1 paths 1 why 1 confirm 1 targets 1 events 1 review 4 place 1 manifest 2 refusals 1 probability 1 require 1 compare 1\n";
+    formats: check 1 cuts 1 tree 1 mef 1 dot 1 fmea 1 report 1 make 1 galileo 1 paths 1 why 1 confirm 1 targets 1 events 1 review 5 place 1 manifest 2 refusals 1 probability 1 require 1 compare 1\n";

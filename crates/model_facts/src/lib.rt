@@ -23,5 +23,5 @@ pub use laws::{
     event_names_are_plain, event_names_differ, fact_names_are_plain, fact_names_differ,
 };
 pub use named::are_named;
-pub use names::{event_key, event_name, fact_name};
+pub use names::{event_key, event_name, fact_name, point_name, state_name};
 pub use universe::universe_of;

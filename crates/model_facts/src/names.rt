@@ -2,7 +2,7 @@ ghost use Rattle.std.specs.Prelude.{◌≡◌, ◌∷◌, ◌++◌, [], codes, f
 ghost use Rattle.std.specs.Option.{option_map_or};
 ghost use Rattle.propagation_points.specs.States.{all_variants};
 ghost use Rattle.model_facts.specs.Assembly.{model_at};
-ghost use Rattle.model_facts.specs.Names.{at_point, event_key, event_name, in_braces, variant_text, fact_name, own_event_name, own_fact_name, path_at, path_text, point_name, source_name, type_name, type_text};
+ghost use Rattle.model_facts.specs.Names.{at_point, bare_name, event_key, event_name, in_braces, variant_text, fact_name, own_event_name, own_fact_name, path_at, path_text, point_name, source_name, type_name, type_text};
 
 use crate::assembly::Assembly;
 use crate::keys::{EventKey, EventKind, FactKey, FactKind};
@@ -192,6 +192,13 @@ fn bare_name<'m>(variant: Option<&Variant<'m>>) -> &'m [u8]
     }
 }
 
+/// The name of a state of a component, without its type.
+pub fn state_name<'m>(assembly: &Assembly<'m>, owner: u32, number: u32) -> &'m [u8]
+    ensures { result.now ≡ bare_name (model_at assembly.now owner).states.sorts number }
+{
+    bare_name(state_variant(assembly, owner, number))
+}
+
 /// The variant of a state of a component.
 fn state_variant<'m>(assembly: &Assembly<'m>, owner: u32, number: u32) -> Option<&'m Variant<'m>>
     ensures { option_copied result ≡ slice_get (all_variants (model_at assembly.now owner).states.sorts) number }
@@ -223,7 +230,7 @@ fn source_name<'m>(assembly: &Assembly<'m>, owner: u32, number: u32) -> &'m [u8]
 }
 
 /// The name of a point of a component, or nothing.
-fn point_name<'m>(assembly: &Assembly<'m>, owner: u32, number: u32) -> &'m [u8]
+pub fn point_name<'m>(assembly: &Assembly<'m>, owner: u32, number: u32) -> &'m [u8]
     ensures { result.now ≡ point_name (model_at assembly.now owner) number }
 {
     match assembly.model(owner) {

@@ -19,8 +19,8 @@ use Rattle.propagation_links.specs.Refused.{links_refusal}
 use Rattle.model_facts.specs.Assembly.{Assembly, assembly_of, points_in}
 use Rattle.fact_formulas.specs.Flat.{size_refusal}
 use Rattle.model_phases.specs.Phases.{IsFlat, assembled, content_tests, flat_phase, kind_tests, origins_phase, review_phase}
-use Rattle.model_review.specs.Review.{IsReview}
-use Rattle.model_review.proofs.OneText.{one_review}
+use Rattle.finding_places.specs.Lines.{AreLinesOf}
+use Rattle.finding_places.proofs.OneReview.{one-review}
 use Rattle.model_phases.specs.declared.review.ReviewedModel.{ReviewedModel}
 use Rattle.model_phases.specs.Tests.{IsIt}
 
@@ -61,7 +61,7 @@ module _ (Same : Status → Status → Type 0) (itself : (status : Status) → S
 
   -- and so has its review
   pub review_decided : (profile : Profile) (packages : List PackageUnit) (root : ClassifierId) → IsDecided Same (assembled review_phase profile packages root)
-  review_decided = assembled_decided review_phase (λ assembly. decided_accepts Same (λ (reviewed : ReviewedModel). IsReview assembly reviewed.text) (λ a b one other. (λ i. record { text = one_review assembly a.text b.text one other i })))
+  review_decided = assembled_decided review_phase (λ assembly. decided_accepts Same (λ (reviewed : ReviewedModel). AreLinesOf assembly reviewed.lines) (λ a b one other. (λ i. record { lines = one-review assembly a.lines b.lines one other i })))
 
   -- and so has it with the origins of its events
   pub origins_decided : (profile : Profile) (packages : List PackageUnit) (root : ClassifierId) → IsDecided Same (assembled origins_phase profile packages root)

@@ -16,7 +16,7 @@ use Rattle.event_rates.specs.Associations.{rate_in}
 use Rattle.model_facts.specs.Facts.{events_of}
 use Rattle.event_origins.specs.Origins.{origin_of}
 use Rattle.model_phases.specs.declared.flat.FlatModel.{FlatModel}
-use Rattle.model_review.specs.Review.{IsReview}
+use Rattle.finding_places.specs.Lines.{AreLinesOf}
 use Rattle.model_phases.specs.declared.events.EventModel.{EventModel}
 use Rattle.model_phases.specs.declared.review.ReviewedModel.{ReviewedModel}
 use Rattle.model_phases.specs.Named.{IsPlainModel}
@@ -81,6 +81,6 @@ origins_phase assembly = do
   model ← flat_phase assembly
   yields (with_origins assembly model)
 
--- The text of the review of a model that is put together.
+-- The lines of the review of a model that is put together.
 abbrev pub review_phase : Assembly → Phase ReviewedModel
-review_phase assembly = accepts (λ reviewed. IsReview assembly reviewed.text)
+review_phase assembly = accepts (λ reviewed. AreLinesOf assembly reviewed.lines)

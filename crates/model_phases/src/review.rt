@@ -1,16 +1,16 @@
 use crate::flat::FromAssembly;
 use fact_formulas::NumberedModel;
+use finding_places::{ReviewLine, review_lines};
 use model_facts::Assembly;
-use model_review::review;
 use phases::Status;
-use plain_values::Name;
+use plain_values::List;
 use std::alloc::Global;
 
 /// What a model leaves without effect, and where its errors stop.
 #[derive(Drop)]
 pub struct ReviewedModel {
-    /// The text of its review: a line a finding, and then the line `end`.
-    pub text: Name,
+    /// The lines of its review, one a finding.
+    pub lines: List<ReviewLine>,
 }
 
 impl FromAssembly for ReviewedModel {
@@ -23,7 +23,7 @@ impl FromAssembly for ReviewedModel {
         assembly: &Assembly,
         model: NumberedModel,
     ) -> Result<ReviewedModel, Status> {
-        let text = review(alloc, assembly, &model)?;
-        Ok(ReviewedModel { text })
+        let lines = review_lines(alloc, assembly, &model)?;
+        Ok(ReviewedModel { lines })
     }
 }

@@ -1,13 +1,10 @@
--- A model has one review.
-use Rattle.std.proofs.Common.{◌≡◌, ℕ, ◌++◌, List, length, ap, sym, ◌∙◌}
+-- A model has one list of findings.
+use Rattle.std.proofs.Common.{◌≡◌, ◌++◌, List, length, sym, ◌∙◌}
 use Rattle.system_review.specs.Occurring.{IsUnreachedEvent, IsUnusedEvent}
 use Rattle.system_review.specs.Single.{IsNoSingleEvent}
 use Rattle.system_review.proofs.OneReview.{one-listed, one-loops}
-use Rattle.model_facts.specs.Assembly.{Assembly}
 use Rattle.model_review.specs.Findings.{model_findings}
-use Rattle.model_review.specs.Lines.{review_text}
-use Rattle.model_review.specs.Review.{IsReview}
-use Rattle.model_review.specs.Seen.{Seen, root_effects, seen_of}
+use Rattle.model_review.specs.Seen.{Seen, root_effects}
 use Rattle.model_review.specs.Told.{AreFindings, system_findings}
 use Rattle.model_review.specs.declared.finding.Finding.{Finding}
 
@@ -20,7 +17,3 @@ one-findings seen a b (loops, unused, no_single, unreached, told, is) (others, n
     let same_no_single = one-listed (IsNoSingleEvent seen.system) most no_single joined told.no_single_are as_told.no_single_are in
     let same_unreached = one-listed (IsUnreachedEvent seen.system (root_effects seen)) most unreached far told.unreached_are as_told.unreached_are in
     is ∙ (λ i. model_findings seen ++ system_findings seen (same_loops i) (same_unused i) (same_no_single i) (same_unreached i)) ∙ sym are
-
--- one text
-pub one_review : (assembly : Assembly) (a b : List ℕ) → IsReview assembly a → IsReview assembly b → a ≡ b
-one_review assembly a b (found, are, is) (others, told, reads) = is ∙ ap (review_text (seen_of assembly)) (one-findings (seen_of assembly) found others are told) ∙ sym reads

@@ -2,5 +2,4 @@ pub mod Seen
 pub mod Findings
 pub mod Told
 pub mod Lines
-pub mod Review
 pub mod inner

@@ -122,17 +122,9 @@ finding_text seen (UnreadBinding part) = codes "unread-binding " ++ (path_text (
 finding_text seen (StrayPath stray) = codes "stray-binding " ++ (path_text (path_at seen.numbered.assembly stray.component) ++ (codes " " ++ dotted stray.path))
 finding_text seen (StrayRate rate) = codes "unused-rate " ++ (path_text (path_at seen.numbered.assembly rate.component) ++ (codes " " ++ dotted rate.target))
 finding_text seen (CoreRate part) = codes "unused-rate " ++ (path_text (path_at seen.numbered.assembly part.component) ++ (codes " core:" ++ part.name))
-finding_text seen (TypeRoot name) = codes "type-root root " ++ name
+finding_text seen (TypeRoot one) = codes "type-root root " ++ one.name
 finding_text seen (InLoop loop) = codes "loop " ++ (decimal loop.size ++ (codes " " ++ fact_name seen.system loop.first))
 finding_text seen (UnusedEvent event) = codes "unused-event " ++ event_name seen.system event
 finding_text seen (NoSingle event) = codes "no-single " ++ event_name seen.system event
 finding_text seen NoEffect = codes "no-effect root"
 finding_text seen (UnreachedEvent event) = codes "unreached-event " ++ event_name seen.system event
-
--- a line
-abbrev pub finding_line : Seen → Finding → List ℕ
-finding_line seen finding = finding_text seen finding ++ codes "\n"
-
--- The text of these findings: a line each, and then that it ends.
-abbrev pub review_text : Seen → List Finding → List ℕ
-review_text seen findings = flat_map (finding_line seen) findings ++ codes "end\n"

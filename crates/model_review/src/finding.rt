@@ -1,12 +1,12 @@
 ghost use Rattle.std.specs.Prelude.{◌≡◌, ◌++◌, ◌∷◌, ◌==◌, [], OnOk, cond, length};
 
 use event_rates::UnusedRate;
-use plain_values::{List, Mem, Name};
+use plain_values::{List, Mem};
 use propagation_links::{Link, PointAt, Unlinked};
 use stray_bindings::StrayBinding;
 use system_review::Loop;
 use uneven_parts::{QuietState, UnlikeState};
-use unread_parts::Part;
+use unread_parts::{Implementation, Part};
 
 /// Types at a side of a point, by their numbers.
 #[derive(Drop)]
@@ -74,7 +74,7 @@ pub enum Finding {
     /// A rate stands in core text, where it counts for no event.
     CoreRate(Part),
     /// The root is a component type, and has no parts: an implementation of it is not looked at.
-    TypeRoot(Name),
+    TypeRoot(Implementation),
     /// Facts depend on one another.
     InLoop(Loop),
     /// An error event occurs in no formula.

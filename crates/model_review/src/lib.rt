@@ -1,4 +1,4 @@
-//! What a model leaves without effect, and where its errors stop: the text of its review.
+//! What a model leaves without effect, and where its errors stop: its review.
 #![tactic(auto)]
 
 mod ends;
@@ -15,5 +15,7 @@ mod told;
 mod view;
 mod walks;
 
+pub use finding::{Finding, TypesAt};
 pub use laws::nothing_is_hidden;
-pub use reviewing::review;
+pub use lines::flow_of;
+pub use reviewing::{Reviewed, review};

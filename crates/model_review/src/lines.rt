@@ -8,7 +8,7 @@ ghost use Rattle.model_facts.specs.Assembly.{model_at};
 ghost use Rattle.model_facts.specs.Facts.{fact_in};
 ghost use Rattle.model_facts.specs.Names.{behind, fact_name as its_fact_name, path_at, path_text, point_name, type_text};
 ghost use Rattle.model_facts.specs.declared.keys.FactKind.TheVariants.{State};
-ghost use Rattle.model_review.specs.Lines.{connection_name, direction, dotted, finding_line, finding_text, flow_at, flow_text, further_names, further_types, is_no_sink, part_text, review_text, side_text, type_list, types_text, unlinked_name, unlinked_text, user_path_name};
+ghost use Rattle.model_review.specs.Lines.{connection_name, direction, dotted, finding_text, flow_at, flow_text, further_names, further_types, is_no_sink, part_text, side_text, type_list, types_text, unlinked_name, unlinked_text, user_path_name};
 
 use crate::finding::{Finding, TypesAt};
 use crate::view::View;
@@ -28,32 +28,24 @@ use system_review::Loop;
 use uneven_parts::{QuietState, UnlikeState};
 use unread_parts::Part;
 
-/// The text of these findings of a model.
-pub(crate) fn text_of(alloc: Global, view: &View, findings: &[Finding]) -> Mem<Name>
-    ensures { IfOk result (λ text. text ≡ review_text view.now findings.now) }
+/// The lines of these findings of a model.
+pub(crate) fn lines_of(alloc: Global, view: &View, findings: &[Finding]) -> Mem<List<Name>>
+    ensures { IfOk result (λ lines. lines ≡ map (finding_text view.now) findings.now) }
+{
+    let mut lines = List::new(alloc);
+    for finding in findings {
+        lines.push(line_of(alloc, view, finding)?)?;
+    }
+    Ok(lines)
+}
+
+/// The line of a finding.
+fn line_of(alloc: Global, view: &View, finding: &Finding) -> Mem<Name>
+    ensures { IfOk result (λ line. line ≡ finding_text view.now finding.now) }
 {
     let mut text = Vec::new(alloc);
-    push_findings(alloc, &mut text, view, findings)?;
-    text.extend_from_slice(b"end\n")?;
+    push_text(alloc, &mut text, view, finding)?;
     List::of(text)
-}
-
-fn push_findings(alloc: Global, text: &mut Vec<u8>, view: &View, findings: &[Finding]) -> Mem<()>
-    ensures { OnOk result (text.new.items ≡ text.old.items ++ flat_map (finding_line view.now) findings.now) }
-{
-    for finding in findings {
-        push_finding(alloc, text, view, finding)?;
-    }
-    Ok(())
-}
-
-/// Adds the line of a finding.
-fn push_finding(alloc: Global, text: &mut Vec<u8>, view: &View, finding: &Finding) -> Mem<()>
-    ensures { OnOk result (text.new.items ≡ text.old.items ++ finding_line view.now finding.now) }
-{
-    push_text(alloc, text, view, finding)?;
-    text.extend_from_slice(b"\n")?;
-    Ok(())
 }
 
 fn push_text(alloc: Global, text: &mut Vec<u8>, view: &View, finding: &Finding) -> Mem<()>
@@ -90,7 +82,7 @@ fn push_text(alloc: Global, text: &mut Vec<u8>, view: &View, finding: &Finding) 
         Finding::StrayPath(stray) => push_stray(text, assembly, stray),
         Finding::StrayRate(rate) => push_rate(text, assembly, rate),
         Finding::CoreRate(part) => push_core_rate(text, assembly, part),
-        Finding::TypeRoot(name) => push_two(text, b"type-root root ", name.items()),
+        Finding::TypeRoot(one) => push_two(text, b"type-root root ", one.name.items()),
         Finding::InLoop(one) => push_loop(text, view.system(), *one),
         Finding::UnusedEvent(event) => push_event(text, b"unused-event ", view.system(), *event),
         Finding::NoSingle(event) => push_event(text, b"no-single ", view.system(), *event),
@@ -353,7 +345,7 @@ fn push_own(text: &mut Vec<u8>, assembly: &Assembly, owner: u32, name: &[u8]) ->
 }
 
 /// The source or path of a place among those of a component.
-fn flow_of<'m>(assembly: &Assembly<'m>, owner: u32, number: u32) -> Option<&'m Flow>
+pub fn flow_of<'m>(assembly: &Assembly<'m>, owner: u32, number: u32) -> Option<&'m Flow>
     ensures { option_copied result ≡ flow_at number (effective_in assembly.now.instance owner).propagations.flows }
 {
     match assembly.instance().effective(owner) {

@@ -31,7 +31,7 @@ use propagation_links::{Link, Unlinked, find_unlinked};
 use std::alloc::Global;
 use stray_bindings::{StrayBinding, stray_bindings};
 use uneven_parts::{QuietState, UnlikeState, quiet_states, two_ways, unlike_states};
-use unread_parts::{Part, What, root_implementations, unread_parts};
+use unread_parts::{Implementation, Part, What, root_implementations, unread_parts};
 
 /// What is told of a model, in order.
 pub(crate) fn findings(alloc: Global, view: &View) -> Mem<List<Finding>>
@@ -279,8 +279,8 @@ fn add_unused_rates(alloc: Global, found: &mut List<Finding>, view: &View) -> Me
 fn add_of_type_root(alloc: Global, found: &mut List<Finding>, view: &View) -> Mem<()>
     ensures { OnOk result (found.new ≡ found.old ++ map TypeRoot (root_implementations view.now.numbered.assembly.instance)) }
 {
-    let names = root_implementations(alloc, view.instance())?;
-    add_implementations(alloc, found, names.items())
+    let all = root_implementations(alloc, view.instance())?;
+    add_implementations(alloc, found, all.items())
 }
 
 fn add_modal(alloc: Global, found: &mut List<Finding>, parts: &[Part]) -> Mem<()>
@@ -319,11 +319,11 @@ fn add_core(alloc: Global, found: &mut List<Finding>, parts: &[Part]) -> Mem<()>
     Ok(())
 }
 
-fn add_implementations(alloc: Global, found: &mut List<Finding>, names: &[Name]) -> Mem<()>
-    ensures { OnOk result (found.new ≡ found.old ++ map TypeRoot names.now) }
+fn add_implementations(alloc: Global, found: &mut List<Finding>, all: &[Implementation]) -> Mem<()>
+    ensures { OnOk result (found.new ≡ found.old ++ map TypeRoot all.now) }
 {
-    for name in names {
-        found.push(Finding::TypeRoot(copied(alloc, name.items())?))?;
+    for one in all {
+        found.push(Finding::TypeRoot(one.again(alloc)?))?;
     }
     Ok(())
 }

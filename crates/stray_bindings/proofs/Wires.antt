@@ -7,7 +7,7 @@ use Rattle.plain_values.specs.Numbered.{numbered_from}
 use Rattle.package_index.proofs.Loops.{numbered-more}
 use Rattle.instantiator.specs.declared.path.Component.{Component}
 use Rattle.instantiator.specs.Whole.{Instance, effective_in}
-use Rattle.stray_bindings.specs.Stray.{Wire, is_wire, is_wire_in, stray_in, stray_of, strays_at}
+use Rattle.stray_bindings.specs.Stray.{Wire, is_wire, is_wire_in, stray_in, stray_of}
 use Rattle.stray_bindings.specs.declared.stray.StrayBinding.{StrayBinding}
 use Rattle.profiles.specs.declared.profile.Profile.{Profile}
 
@@ -44,11 +44,11 @@ wires-more instance key i within before after had adds =
 -- what is stray, with that of one component more
 pub strays-more : (profile : Profile) (instance : Instance) (i : ℕ) → i < length instance.components → (before after : List StrayBinding)
     → before ≡ numbered_from (stray_of profile instance) 0 (take i instance.components)
-    → after ≡ before ++ strays_at i (stray_in profile instance i (effective_in instance i))
+    → after ≡ before ++ stray_in profile instance i (effective_in instance i)
     → after ≡ numbered_from (stray_of profile instance) 0 (take (i + 1) instance.components)
 strays-more profile instance i within before after had adds =
     let all = instance.components in
     let none : Component = record { path = []; classifier = None } in
     let component : Component = get_or all i none in
-    adds ∙ ap (λ front. front ++ strays_at i (stray_in profile instance i (effective_in instance i))) had
+    adds ∙ ap (λ front. front ++ stray_in profile instance i (effective_in instance i)) had
     ∙ sym (numbered-more (stray_of profile instance) all i component within (get_or_default all i none component within))

@@ -9,6 +9,7 @@ use Rattle.aadl_syntax.specs.declared.core_model.Category.{Category}
 use Rattle.aadl_syntax.specs.declared.core_model.Connection.{Connection}
 use Rattle.plain_values.specs.Name.{is_same_text}
 use Rattle.plain_values.specs.Numbered.{numbered_from}
+use Rattle.plain_values.specs.declared.spot.Spot.{Spot}
 use Rattle.profiles.specs.declared.profile.Profile.{Profile}
 use Rattle.profiles.specs.Profiles.{is_first}
 use Rattle.package_index.specs.Lookup.{decl_of}
@@ -98,17 +99,25 @@ section_paths profile instance number binding = cond (not (is_first profile) || 
 abbrev pub braced_paths : Profile → Instance → ℕ → Binding → List (List (List ℕ))
 braced_paths profile instance number binding = cond (is_first profile) [] (stray_paths instance number binding)
 
--- those of an effective classifier
-abbrev pub stray_in : Profile → Instance → ℕ → Effective → List (List (List ℕ))
-stray_in profile instance number effective = flat_map (section_paths profile instance number) effective.bindings ++ flat_map (braced_paths profile instance number) effective.braced
+-- paths in a binding that stands at this place, of the component of a number
+abbrev pub strays_at : ℕ → Spot → List (List (List ℕ)) → List StrayBinding
+strays_at number spot paths = map (λ path. record { component = number; path = path; spot = spot }) paths
 
--- paths, of the component of a number
-abbrev pub strays_at : ℕ → List (List (List ℕ)) → List StrayBinding
-strays_at number paths = map (λ path. record { component = number; path = path }) paths
+-- those of a binding of a section
+abbrev pub section_strays : Profile → Instance → ℕ → Binding → List StrayBinding
+section_strays profile instance number binding = strays_at number binding.spot (section_paths profile instance number binding)
+
+-- those of a binding in braces
+abbrev pub braced_strays : Profile → Instance → ℕ → Binding → List StrayBinding
+braced_strays profile instance number binding = strays_at number binding.spot (braced_paths profile instance number binding)
+
+-- those of an effective classifier
+abbrev pub stray_in : Profile → Instance → ℕ → Effective → List StrayBinding
+stray_in profile instance number effective = flat_map (section_strays profile instance number) effective.bindings ++ flat_map (braced_strays profile instance number) effective.braced
 
 -- those of the component of a number
 abbrev pub stray_of : Profile → Instance → ℕ → Component → List StrayBinding
-stray_of profile instance number component = strays_at number (stray_in profile instance number (effective_in instance number))
+stray_of profile instance number component = stray_in profile instance number (effective_in instance number)
 
 -- The paths in bindings that a profile reads which lead to nothing that may be bound, or to no component where something is bound to it, one component
 -- after the other: of each binding the targets, and then the references; those of sections, and then those in braces.

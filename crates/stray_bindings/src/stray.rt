@@ -3,21 +3,22 @@
 ghost use Rattle.std.specs.Prelude.{◌≡◌, ◌++◌, IfOk, OnOk, filter, flat_map, not};
 ghost use Rattle.plain_values.specs.Numbered.{numbered_from};
 ghost use Rattle.instantiator.specs.Whole.{effective_in};
-ghost use Rattle.stray_bindings.specs.Stray.{braced_paths, is_bindable, is_of_components, is_part, section_paths, stray_bindings, stray_in, stray_of, stray_paths, strays_at};
+ghost use Rattle.stray_bindings.specs.Stray.{braced_paths, braced_strays, is_bindable, is_of_components, is_part, section_paths, section_strays, stray_bindings, stray_in, stray_paths, strays_at};
 
 use crate::places::Places;
 use aadl_syntax::{Binding, BindingKind, Identifier};
 use component_extension::Effective;
 use instantiator::Instance;
-use plain_values::{List, Mem, Name, copied};
+use plain_values::{List, Mem, Name, Spot, copied};
 use profiles::Profile;
 use std::alloc::Global;
 
-/// A path in a binding that leads to nothing: the component that states it, and the names.
+/// A path in a binding that leads to nothing: the component that states it, and the names. The spot is that of the binding.
 #[derive(Drop)]
 pub struct StrayBinding {
     pub component: u32,
     pub path: List<Name>,
+    pub spot: Spot,
 }
 
 impl StrayBinding {
@@ -28,6 +29,7 @@ impl StrayBinding {
         Ok(StrayBinding {
             component: self.component,
             path: names_again(alloc, self.path.items())?,
+            spot: self.spot,
         })
     }
 }
@@ -64,94 +66,44 @@ fn add_component(
     places: &Places,
     number: u32,
 ) -> Mem<()>
-    ensures { OnOk result (found.new ≡ found.old ++ strays_at number (stray_in profile places.now number (effective_in places.now number))) }
+    ensures { OnOk result (found.new ≡ found.old ++ stray_in profile places.now number (effective_in places.now number)) }
 {
     match places.instance().effective(number) {
-        Some(effective) => {
-            let paths = stray_in(alloc, profile, places, number, effective)?;
-            add_strays(alloc, found, number, paths.items())
-        }
+        Some(effective) => add_in(alloc, found, profile, places, number, effective),
         None => Ok(()),
     }
 }
 
-fn add_strays(
+/// Adds those of an effective classifier.
+fn add_in(
     alloc: Global,
     found: &mut List<StrayBinding>,
-    number: u32,
-    paths: &[List<Name>],
-) -> Mem<()>
-    ensures { OnOk result (found.new ≡ found.old ++ strays_at number paths.now) }
-{
-    for path in paths {
-        let path = names_again(alloc, path.items())?;
-        found.push(StrayBinding {
-            component: number,
-            path,
-        })?;
-    }
-    Ok(())
-}
-
-/// Those of an effective classifier.
-fn stray_in(
-    alloc: Global,
     profile: Profile,
     places: &Places,
     number: u32,
     effective: &Effective,
-) -> Mem<List<List<Name>>>
-    ensures { IfOk result (λ paths. paths ≡ stray_in profile places.now number effective.now) }
+) -> Mem<()>
+    ensures { OnOk result (found.new ≡ found.old ++ stray_in profile places.now number effective.now) }
 {
-    let mut paths = List::new(alloc);
-    add_sections(
-        alloc,
-        &mut paths,
-        profile,
-        places,
-        number,
-        effective.bindings.items(),
-    )?;
-    add_braced(
-        alloc,
-        &mut paths,
-        profile,
-        places,
-        number,
-        effective.braced.items(),
-    )?;
-    Ok(paths)
+    let (sections, braced) = (effective.bindings.items(), effective.braced.items());
+    add_sections(alloc, found, profile, places, number, sections)?;
+    add_braced(alloc, found, profile, places, number, braced)
 }
 
 /// Adds those of bindings of sections.
 fn add_sections(
     alloc: Global,
-    paths: &mut List<List<Name>>,
+    found: &mut List<StrayBinding>,
     profile: Profile,
     places: &Places,
     number: u32,
     bindings: &[Binding],
 ) -> Mem<()>
-    ensures { OnOk result (paths.new ≡ paths.old ++ flat_map (section_paths profile places.now number) bindings.now) }
+    ensures { OnOk result (found.new ≡ found.old ++ flat_map (section_strays profile places.now number) bindings.now) }
 {
     for binding in bindings {
-        add_section(alloc, paths, profile, places, number, binding)?;
-    }
-    Ok(())
-}
-
-fn add_section(
-    alloc: Global,
-    paths: &mut List<List<Name>>,
-    profile: Profile,
-    places: &Places,
-    number: u32,
-    binding: &Binding,
-) -> Mem<()>
-    ensures { OnOk result (paths.new ≡ paths.old ++ section_paths profile places.now number binding.now) }
-{
-    if !profile.is_first() || is_of_components(binding.kind) {
-        return add_paths(alloc, paths, places, number, binding);
+        let paths = section_paths(alloc, profile, places, number, binding)?;
+        add_strays(alloc, found, number, binding.spot, paths.items())?;
     }
     Ok(())
 }
@@ -159,55 +111,94 @@ fn add_section(
 /// Adds those of bindings in braces.
 fn add_braced(
     alloc: Global,
-    paths: &mut List<List<Name>>,
+    found: &mut List<StrayBinding>,
     profile: Profile,
     places: &Places,
     number: u32,
     bindings: &[Binding],
 ) -> Mem<()>
-    ensures { OnOk result (paths.new ≡ paths.old ++ flat_map (braced_paths profile places.now number) bindings.now) }
+    ensures { OnOk result (found.new ≡ found.old ++ flat_map (braced_strays profile places.now number) bindings.now) }
 {
     for binding in bindings {
-        add_one_braced(alloc, paths, profile, places, number, binding)?;
+        let paths = braced_paths(alloc, profile, places, number, binding)?;
+        add_strays(alloc, found, number, binding.spot, paths.items())?;
     }
     Ok(())
 }
 
-fn add_one_braced(
+/// Adds these paths of a binding that stands at this place.
+fn add_strays(
     alloc: Global,
-    paths: &mut List<List<Name>>,
+    found: &mut List<StrayBinding>,
+    number: u32,
+    spot: Spot,
+    paths: &[List<Name>],
+) -> Mem<()>
+    ensures { OnOk result (found.new ≡ found.old ++ strays_at number spot paths.now) }
+{
+    for path in paths {
+        let path = names_again(alloc, path.items())?;
+        found.push(StrayBinding {
+            component: number,
+            path,
+            spot,
+        })?;
+    }
+    Ok(())
+}
+
+/// The paths of a binding of a section that lead to nothing, where a profile reads it.
+fn section_paths(
+    alloc: Global,
     profile: Profile,
     places: &Places,
     number: u32,
     binding: &Binding,
-) -> Mem<()>
-    ensures { OnOk result (paths.new ≡ paths.old ++ braced_paths profile places.now number binding.now) }
+) -> Mem<List<List<Name>>>
+    ensures { IfOk result (λ paths. paths ≡ section_paths profile places.now number binding.now) }
 {
-    if profile.is_first() {
-        return Ok(());
+    if !profile.is_first() || is_of_components(binding.kind) {
+        return stray_paths(alloc, places, number, binding);
     }
-    add_paths(alloc, paths, places, number, binding)
+    Ok(List::new(alloc))
 }
 
-/// Adds the paths of a binding that lead to nothing.
-fn add_paths(
+/// The same of a binding in braces.
+fn braced_paths(
     alloc: Global,
-    paths: &mut List<List<Name>>,
+    profile: Profile,
     places: &Places,
     number: u32,
     binding: &Binding,
-) -> Mem<()>
-    ensures { OnOk result (paths.new ≡ paths.old ++ stray_paths places.now number binding.now) }
+) -> Mem<List<List<Name>>>
+    ensures { IfOk result (λ paths. paths ≡ braced_paths profile places.now number binding.now) }
 {
-    add_targets(
+    if profile.is_first() {
+        return Ok(List::new(alloc));
+    }
+    stray_paths(alloc, places, number, binding)
+}
+
+/// The paths of a binding that lead to nothing: its targets, and then its references.
+fn stray_paths(
+    alloc: Global,
+    places: &Places,
+    number: u32,
+    binding: &Binding,
+) -> Mem<List<List<Name>>>
+    ensures { IfOk result (λ paths. paths ≡ stray_paths places.now number binding.now) }
+{
+    let mut paths = List::new(alloc);
+    let (kind, targets) = (binding.kind, binding.targets.items());
+    add_targets(alloc, &mut paths, places, kind, number, targets)?;
+    add_references(
         alloc,
-        paths,
+        &mut paths,
         places,
-        binding.kind,
         number,
-        binding.targets.items(),
+        binding.references.items(),
     )?;
-    add_references(alloc, paths, places, number, binding.references.items())
+    Ok(paths)
 }
 
 fn add_targets(

@@ -15,7 +15,7 @@ one_more n byte bytes = ap (λ m. take m (byte ∷ bytes)) (one-add n)
 first_no : (byte : ℕ) (bytes : List ℕ) → is_feed byte ≡ false → list_any is_feed (byte ∷ bytes) ≡ list_any is_feed bytes
 first_no byte bytes is = ap (λ (t : Bool). t || list_any is_feed bytes) is
 
-before_no : (byte : ℕ) (bytes : List ℕ) → is_feed byte ≡ false → before_first is_feed (byte ∷ bytes) ≡ byte ∷ before_first is_feed bytes
+pub before_no : (byte : ℕ) (bytes : List ℕ) → is_feed byte ≡ false → before_first is_feed (byte ∷ bytes) ≡ byte ∷ before_first is_feed bytes
 before_no byte bytes is =
     ap (λ (t : Bool). take (cond (not t) (1 + position_or_len is_feed bytes) 0) (byte ∷ bytes)) is ∙ one_more (position_or_len is_feed bytes) byte bytes
 

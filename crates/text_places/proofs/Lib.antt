@@ -1,3 +1,4 @@
 mod Feeds
+mod Marked
 mod Placed
 pub mod Examples

@@ -30,7 +30,7 @@ fn characters(alloc: Global, text: &[u8]) -> Mem<Vec<u8>>
         .collect(alloc)
 }
 
-fn begins_character(byte: u8) -> bool
+pub(crate) fn begins_character(byte: u8) -> bool
     ensures { result ≡ begins_character byte }
 {
     byte < 128 || 192 <= byte

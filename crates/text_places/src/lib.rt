@@ -3,6 +3,9 @@
 
 mod columns;
 mod lines;
+mod mark;
 mod places;
+mod table;
 
 pub use places::{line_and_column, place_text};
+pub use table::LineTable;

@@ -7,33 +7,34 @@ use Rattle.plain_values.specs.Name.{is_same_text}
 use Rattle.package_index.specs.declared.id.ClassifierId.{ClassifierId}
 use Rattle.package_index.specs.Lookup.{decl_of}
 use Rattle.instantiator.specs.Whole.{Instance, classifier_at}
+use Rattle.unread_parts.specs.declared.root.Implementation.{Implementation}
 
 -- the name of an implementation of a package: `p::s.i`
 abbrev pub implementation_name : PackageUnit → List ℕ → List ℕ → List ℕ
 implementation_name unit name item = flat_map (λ part. part ++ codes "::") unit.name ++ (name ++ (codes "." ++ item))
 
--- the name of a classifier of a package with this item, if it has one
-abbrev pub name_with : PackageUnit → List ℕ → Option (List ℕ) → List (List ℕ)
-name_with unit name None = []
-name_with unit name (Some item) = implementation_name unit name item ∷ []
+-- a classifier of a package with this item, if it has one: its name, and where it stands
+abbrev pub implementation_with : PackageUnit → Decl → Option (List ℕ) → List Implementation
+implementation_with unit decl None = []
+implementation_with unit decl (Some item) = record { name = implementation_name unit decl.name item; spot = decl.spot } ∷ []
 
--- the name of a classifier of a package, if it is an implementation of the type of this name
-abbrev pub implementing : PackageUnit → List ℕ → Decl → List (List ℕ)
-implementing unit name decl = cond (is_same_text decl.name name) (name_with unit decl.name decl.item) []
+-- a classifier of a package, if it is an implementation of the type of this name
+abbrev pub implementing : PackageUnit → List ℕ → Decl → List Implementation
+implementing unit name decl = cond (is_same_text decl.name name) (implementation_with unit decl decl.item) []
 
--- the names of the implementations of a classifier of a package with this item; an implementation has none
-abbrev pub implementations_in : PackageUnit → List ℕ → Option (List ℕ) → List (List ℕ)
+-- the implementations of a classifier of a package with this item; an implementation has none
+abbrev pub implementations_in : PackageUnit → List ℕ → Option (List ℕ) → List Implementation
 implementations_in unit name None = flat_map (implementing unit name) unit.decls
 implementations_in unit name (Some item) = []
 
--- the names of the implementations of a classifier of the package of a number
-abbrev pub implementations_of : List PackageUnit → ℕ → Decl → List (List ℕ)
+-- the implementations of a classifier of the package of a number
+abbrev pub implementations_of : List PackageUnit → ℕ → Decl → List Implementation
 implementations_of packages number decl = option_map_or (λ unit. implementations_in unit decl.name decl.item) (slice_get packages number) []
 
--- the names of the implementations of a classifier
-abbrev pub implementations_at : List PackageUnit → ClassifierId → List (List ℕ)
+-- the implementations of a classifier
+abbrev pub implementations_at : List PackageUnit → ClassifierId → List Implementation
 implementations_at packages id = option_map_or (implementations_of packages id.«package») (decl_of packages id) []
 
--- The names of the implementations of the root, where it is a component type.
-abbrev pub root_implementations : Instance → List (List ℕ)
+-- The implementations of the root, where it is a component type.
+abbrev pub root_implementations : Instance → List Implementation
 root_implementations instance = option_map_or (implementations_at instance.packages) (classifier_at instance 0) []

@@ -1,6 +1,7 @@
 -- What stands in the text of a model and is not looked at, though errors may depend on it: members and bindings that stand in modes,
--- bindings that are not read, and rates in core text (AADL: modes, deployment properties; EMV2: `OccurrenceDistribution`).
-use Rattle.std.specs.Prelude.{ℕ, suc, ◌-◌, Bool, true, false, cond, ◌&&◌, ◌||◌, not, List, [], ◌∷◌, ◌++◌, codes, drop, flat_map, length, map, Option, Some, None}
+-- bindings that are not read, and rates in core text (AADL: modes, deployment properties; EMV2: `OccurrenceDistribution`). Each with its place.
+use Rattle.std.specs.Prelude.{ℕ, suc, ◌-◌, Bool, true, false, cond, ◌&&◌, ◌||◌, not, List, [], ◌∷◌, ◌++◌, codes, drop, flat_map, length, map, slice_get, Option, Some, None}
+use Rattle.std.specs.Option.{option_map_or}
 use Rattle.aadl_syntax.specs.declared.core_model.Binding.{Binding}
 use Rattle.aadl_syntax.specs.declared.core_model.BindingKind.{BindingKind}
 use Rattle.aadl_syntax.specs.declared.core_model.BindingKind.TheVariants.{Connection as OfConnection, Function, Memory, Processor}
@@ -13,6 +14,7 @@ use Rattle.aadl_syntax.specs.declared.token.TokenKind.{TokenKind}
 use Rattle.aadl_syntax.specs.declared.token.TokenKind.TheVariants.{AnnexRaw, Text}
 use Rattle.plain_values.specs.Name.{is_same_text}
 use Rattle.plain_values.specs.Numbered.{numbered_from}
+use Rattle.plain_values.specs.declared.spot.Spot.{Spot}
 use Rattle.profiles.specs.declared.profile.Profile.{Profile}
 use Rattle.profiles.specs.Profiles.{is_first}
 use Rattle.grammar_rules.specs.Rules.{Rule, chooses, gives, ◌>>=◌}
@@ -90,7 +92,7 @@ reads profile braced (Some binding) = not (is_first profile) || (not braced && i
 -- whether a piece of a section, or of what stands in braces, is told
 abbrev pub is_told : What → Bool → List Token → Bool
 is_told InModes braced piece = has_modes piece
-is_told (Unread profile) braced piece = not (reads profile braced (piece_binding braced piece))
+is_told (Unread profile) braced piece = not (reads profile braced (piece_binding 0 braced piece))
 is_told Rates braced piece = false
 
 -- the name of a piece whose property has this name, where it is told of a binding
@@ -167,59 +169,75 @@ told_named what braced member piece (Some name) = told_so what braced member pie
 abbrev pub told_piece : What → Bool → List ℕ → List Token → List (List ℕ)
 told_piece what braced member piece = told_named what braced member piece (name_of piece)
 
--- what is told of a `properties` section
-abbrev pub told_section : What → List Token → List (List ℕ)
-told_section what tokens = flat_map (told_piece what false []) (section_pieces tokens)
+-- ---- places
+
+-- where a piece begins
+abbrev pub piece_start : List Token → ℕ
+piece_start tokens = option_map_or (λ token. token.start) (slice_get tokens 0) 0
+
+-- a part of the component of a number, which stands at this place
+abbrev pub part_at : ℕ → Spot → List ℕ → Part
+part_at number spot name = record { component = number; name = name; spot = spot }
+
+-- what is told of a piece of a file, in the text of the component of a number: it stands where the piece begins
+abbrev pub piece_parts : What → ℕ → ℕ → Bool → List ℕ → List Token → List Part
+piece_parts what number file braced member piece =
+    map (part_at number (record { file = file; at = piece_start piece })) (told_piece what braced member piece)
+
+-- what is told of a `properties` section of a file
+abbrev pub told_section : What → ℕ → ℕ → List Token → List Part
+told_section what number file tokens = flat_map (piece_parts what number file false []) (section_pieces tokens)
 
 -- what is told of what stands in braces among the tokens behind a member
-abbrev pub told_braces : What → List ℕ → List Token → List (List ℕ)
-told_braces what member tokens = flat_map (told_piece what true member) (section_pieces (behind_brace tokens))
+abbrev pub told_braces : What → ℕ → ℕ → List ℕ → List Token → List Part
+told_braces what number file member tokens = flat_map (piece_parts what number file true member) (section_pieces (behind_brace tokens))
 
 -- what is told of the braces behind subcomponents
-unfoldable pub told_subcomponents : What → List Subcomponent → List (List ℕ)
-told_subcomponents what subcomponents = flat_map (λ subcomponent. told_braces what subcomponent.name subcomponent.tail) subcomponents
+unfoldable pub told_subcomponents : What → ℕ → List Subcomponent → List Part
+told_subcomponents what number subcomponents =
+    flat_map (λ subcomponent. told_braces what number subcomponent.spot.file subcomponent.name subcomponent.tail) subcomponents
 
 -- what is told of the braces behind connections
-unfoldable pub told_connections : What → List Connection → List (List ℕ)
-told_connections what connections = flat_map (λ connection. told_braces what connection.name connection.tail) connections
+unfoldable pub told_connections : What → ℕ → List Connection → List Part
+told_connections what number connections =
+    flat_map (λ connection. told_braces what number connection.spot.file connection.name connection.tail) connections
 
 -- what is told of the braces behind the subcomponents of a classifier, and then behind its connections
-abbrev pub told_behind : What → Decl → List (List ℕ)
-told_behind what decl = told_subcomponents what decl.subcomponents ++ told_connections what decl.connections
+abbrev pub told_behind : What → ℕ → Decl → List Part
+told_behind what number decl = told_subcomponents what number decl.subcomponents ++ told_connections what number decl.connections
 
 -- what is told of the properties of a classifier: of its sections, and in braces behind its members
-abbrev pub told_properties : What → Class → List (List ℕ)
-told_properties what class = flat_map (told_section what) class.item.properties ++ told_behind what class.item
+abbrev pub told_properties : What → ℕ → Class → List Part
+told_properties what number class = flat_map (told_section what number class.item.spot.file) class.item.properties ++ told_behind what number class.item
 
 -- ---- members
 
--- the name of a subcomponent in modes, by its nearest declaration
-abbrev pub modal_subcomponent : Member Subcomponent → List (List ℕ)
-modal_subcomponent member = cond (has_modes member.nearest.item.tail) (member.nearest.item.name ∷ []) []
+-- a subcomponent in modes, by its nearest declaration
+abbrev pub modal_subcomponent : ℕ → Member Subcomponent → List Part
+modal_subcomponent number member =
+    cond (has_modes member.nearest.item.tail) (part_at number member.nearest.item.spot member.nearest.item.name ∷ []) []
 
--- the name of a connection in modes
-abbrev pub modal_connection : Member Connection → List (List ℕ)
-modal_connection member = cond (has_modes member.nearest.item.tail) (member.nearest.item.name ∷ []) []
+-- a connection in modes
+abbrev pub modal_connection : ℕ → Member Connection → List Part
+modal_connection number member =
+    cond (has_modes member.nearest.item.tail) (part_at number member.nearest.item.spot member.nearest.item.name ∷ []) []
 
--- the names of the members that are told: those in modes
-abbrev pub told_members : What → Effective → List (List ℕ)
-told_members InModes effective = flat_map modal_subcomponent effective.members.subcomponents ++ flat_map modal_connection effective.members.connections
-told_members (Unread profile) effective = []
-told_members Rates effective = []
+-- the members that are told: those in modes
+abbrev pub told_members : What → ℕ → Effective → List Part
+told_members InModes number effective =
+    flat_map (modal_subcomponent number) effective.members.subcomponents ++ flat_map (modal_connection number) effective.members.connections
+told_members (Unread profile) number effective = []
+told_members Rates number effective = []
 
 -- ---- the model
 
--- what is told of an effective classifier: its members, and then its properties
-abbrev pub told_names : What → List PackageUnit → Effective → List (List ℕ)
-told_names what packages effective = told_members what effective ++ flat_map (told_properties what) (classes_of packages effective.chain)
-
--- these texts, of the component of a number
-abbrev pub parts_at : ℕ → List (List ℕ) → List Part
-parts_at number names = map (λ name. record { component = number; name = name }) names
+-- what is told of the component of a number with this effective classifier: its members, and then its properties
+abbrev pub told_parts : What → List PackageUnit → ℕ → Effective → List Part
+told_parts what packages number effective = told_members what number effective ++ flat_map (told_properties what number) (classes_of packages effective.chain)
 
 -- what is told of the component of a number
 abbrev pub told_of : What → Instance → ℕ → Component → List Part
-told_of what instance number component = parts_at number (told_names what instance.packages (effective_in instance number))
+told_of what instance number component = told_parts what instance.packages number (effective_in instance number)
 
 -- What is told of an instance, one component after the other: the subcomponents, connections and bindings that stand in modes, the
 -- bindings that a profile does not read, or what the rates in its core text are said of.

@@ -8,5 +8,5 @@ mod rates;
 mod root;
 mod unread;
 
-pub use root::root_implementations;
+pub use root::{Implementation, root_implementations};
 pub use unread::{Part, What, unread_parts};

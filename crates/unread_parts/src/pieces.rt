@@ -1,67 +1,109 @@
 //! What is told of the pieces of sections, and of what stands in braces.
 
-ghost use Rattle.std.specs.Prelude.{◌≡◌, ◌++◌, ◌∷◌, [], IfOk, OnOk, cond, option_to_list};
+ghost use Rattle.std.specs.Prelude.{◌≡◌, ◌++◌, ◌∷◌, [], IfOk, OnOk, cond, map, option_to_list};
 ghost use Rattle.grammar_rules.specs.inner.Reader.{Gives};
-ghost use Rattle.unread_parts.specs.Unread.{is_binding_name, is_of_components, is_told, name_behind, name_of, property_name, reads, told_binding, told_braces, told_piece, told_section, told_so};
+ghost use Rattle.unread_parts.specs.Unread.{is_binding_name, is_of_components, is_told, name_behind, name_of, part_at, piece_parts, piece_start, property_name, reads, told_binding, told_braces, told_piece, told_section, told_so};
 
 use crate::modes::has_modes;
 use crate::rates::told_rate;
-use crate::unread::What;
+use crate::unread::{Part, What};
 use aadl_syntax::{Binding, BindingKind, Identifier, TokenList, TokenSlice};
 use bindings::{behind_brace, piece_binding, section_pieces};
 use grammar_rules::{ReadError, Reader};
-use plain_values::{List, Mem, Name, copied, is_same};
+use plain_values::{List, Mem, Name, Spot, copied, is_same};
 use profiles::Profile;
 use std::alloc::{AllocError, Global};
 
-/// Adds what is told of a `properties` section.
+/// Adds what is told of a `properties` section of a file, in the text of the component of a number.
 pub(crate) fn add_section(
-    names: &mut List<Name>,
+    parts: &mut List<Part>,
     alloc: Global,
     what: What,
+    number: u32,
+    file: u32,
     tokens: &TokenList,
 ) -> Mem<()>
-    ensures { OnOk result (names.new ≡ names.old ++ told_section what tokens.now) }
+    ensures { OnOk result (parts.new ≡ parts.old ++ told_section what number file tokens.now) }
 {
     for piece in section_pieces(alloc, TokenSlice::of(tokens))?.items() {
-        add_piece(names, alloc, what, false, b"", piece)?;
+        add_piece(parts, alloc, what, number, file, false, b"", piece)?;
     }
     Ok(())
 }
 
 /// Adds what is told of what stands in braces among the tokens behind the member of a name.
 pub(crate) fn add_braces(
-    names: &mut List<Name>,
+    parts: &mut List<Part>,
     alloc: Global,
     what: What,
+    number: u32,
+    file: u32,
     member: &[u8],
     tokens: &TokenList,
 ) -> Mem<()>
-    ensures { OnOk result (names.new ≡ names.old ++ told_braces what member.now tokens.now) }
+    ensures { OnOk result (parts.new ≡ parts.old ++ told_braces what number file member.now tokens.now) }
 {
     for piece in section_pieces(alloc, behind_brace(tokens))?.items() {
-        add_piece(names, alloc, what, true, member, piece)?;
+        add_piece(parts, alloc, what, number, file, true, member, piece)?;
     }
     Ok(())
 }
 
 /// Adds what is told of a piece of a section, or of what stands in braces behind the member of a name.
 fn add_piece(
-    names: &mut List<Name>,
+    parts: &mut List<Part>,
+    alloc: Global,
+    what: What,
+    number: u32,
+    file: u32,
+    braced: bool,
+    member: &[u8],
+    piece: &TokenList,
+) -> Mem<()>
+    ensures { OnOk result (parts.new ≡ parts.old ++ piece_parts what number file braced member.now piece.now) }
+{
+    let told = told_piece(alloc, what, braced, member, piece)?;
+    let at = piece_start(piece);
+    parts.push_some(part_told(number, Spot { file, at }, told))
+}
+
+/// The part of the component of a number that is told, if one is, which stands at this place.
+fn part_told(number: u32, spot: Spot, told: Option<Name>) -> Option<Part>
+    ensures { option_to_list result ≡ map (part_at number spot) (option_to_list told) }
+{
+    match told {
+        Some(name) => Some(Part {
+            component: number,
+            name,
+            spot,
+        }),
+        None => None,
+    }
+}
+
+/// Where a piece begins.
+fn piece_start(piece: &TokenList) -> u32
+    ensures { result ≡ piece_start piece.now }
+{
+    match TokenSlice::of(piece).get(0) {
+        Some(token) => token.start,
+        None => 0,
+    }
+}
+
+/// What is told of a piece of a section, or of what stands in braces behind the member of a name, if anything is.
+fn told_piece(
     alloc: Global,
     what: What,
     braced: bool,
     member: &[u8],
     piece: &TokenList,
-) -> Mem<()>
-    ensures { OnOk result (names.new ≡ names.old ++ told_piece what braced member.now piece.now) }
+) -> Mem<Option<Name>>
+    ensures { IfOk result (λ told. option_to_list told ≡ told_piece what braced member.now piece.now) }
 {
     match name_of(alloc, piece)? {
-        Some(name) => {
-            let told = told_so(alloc, what, braced, member, piece, name.text())?;
-            names.push_some(told)
-        }
-        None => Ok(()),
+        Some(name) => told_so(alloc, what, braced, member, piece, name.text()),
+        None => Ok(None),
     }
 }
 
@@ -154,7 +196,7 @@ fn is_told(alloc: Global, what: What, braced: bool, piece: &TokenList) -> Mem<bo
     match what {
         What::InModes => has_modes(alloc, piece),
         What::Unread(profile) => {
-            let binding = piece_binding(alloc, braced, piece)?;
+            let binding = piece_binding(alloc, 0, braced, piece)?;
             Ok(!reads(profile, braced, &binding))
         }
         What::Rates => Ok(false),

@@ -1,17 +1,36 @@
 //! The implementations of a root that is a component type.
 
 ghost use Rattle.std.specs.Prelude.{◌≡◌, ◌++◌, IfOk, OnOk, codes, flat_map};
-ghost use Rattle.unread_parts.specs.Root.{implementation_name, implementations_at, implementations_in, implementations_of, implementing, name_with, root_implementations};
+ghost use Rattle.unread_parts.specs.Root.{implementation_name, implementation_with, implementations_at, implementations_in, implementations_of, implementing, root_implementations};
 
 use aadl_syntax::{Decl, Identifier, PackageUnit};
 use instantiator::Instance;
 use package_index::{ClassifierId, Index};
-use plain_values::{List, Mem, Name, is_same};
+use plain_values::{List, Mem, Name, Spot, copied, is_same};
 use std::alloc::Global;
 
-/// The names of the implementations of the root, where it is a component type: `p::s.i`, in the order of its package.
-pub fn root_implementations(alloc: Global, instance: &Instance) -> Mem<List<Name>>
-    ensures { IfOk result (λ names. names ≡ root_implementations instance.now) }
+/// An implementation: its name, `p::s.i`, and where it stands.
+#[derive(Drop)]
+pub struct Implementation {
+    pub name: Name,
+    pub spot: Spot,
+}
+
+impl Implementation {
+    /// The same once more.
+    pub fn again(&self, alloc: Global) -> Mem<Implementation>
+        ensures { IfOk result (λ one. one ≡ self.now) }
+    {
+        Ok(Implementation {
+            name: copied(alloc, self.name.items())?,
+            spot: self.spot,
+        })
+    }
+}
+
+/// The implementations of the root, where it is a component type, in the order of its package.
+pub fn root_implementations(alloc: Global, instance: &Instance) -> Mem<List<Implementation>>
+    ensures { IfOk result (λ found. found ≡ root_implementations instance.now) }
 {
     match instance.classifier(0) {
         Some(id) => implementations_at(alloc, instance.index(), id),
@@ -19,9 +38,9 @@ pub fn root_implementations(alloc: Global, instance: &Instance) -> Mem<List<Name
     }
 }
 
-/// The names of the implementations of a classifier.
-fn implementations_at(alloc: Global, index: &Index, id: ClassifierId) -> Mem<List<Name>>
-    ensures { IfOk result (λ names. names ≡ implementations_at index.now id) }
+/// The implementations of a classifier.
+fn implementations_at(alloc: Global, index: &Index, id: ClassifierId) -> Mem<List<Implementation>>
+    ensures { IfOk result (λ found. found ≡ implementations_at index.now id) }
 {
     match index.decl(id) {
         Some(decl) => implementations_of(alloc, index, id.package, decl),
@@ -29,8 +48,13 @@ fn implementations_at(alloc: Global, index: &Index, id: ClassifierId) -> Mem<Lis
     }
 }
 
-fn implementations_of(alloc: Global, index: &Index, number: u32, decl: &Decl) -> Mem<List<Name>>
-    ensures { IfOk result (λ names. names ≡ implementations_of index.now number decl.now) }
+fn implementations_of(
+    alloc: Global,
+    index: &Index,
+    number: u32,
+    decl: &Decl,
+) -> Mem<List<Implementation>>
+    ensures { IfOk result (λ found. found ≡ implementations_of index.now number decl.now) }
 {
     match index.package(number) {
         Some(unit) => implementations_in(alloc, unit, decl),
@@ -39,8 +63,8 @@ fn implementations_of(alloc: Global, index: &Index, number: u32, decl: &Decl) ->
 }
 
 /// Those of a classifier of a package; an implementation has none.
-fn implementations_in(alloc: Global, unit: &PackageUnit, decl: &Decl) -> Mem<List<Name>>
-    ensures { IfOk result (λ names. names ≡ implementations_in unit.now decl.now.name decl.now.item) }
+fn implementations_in(alloc: Global, unit: &PackageUnit, decl: &Decl) -> Mem<List<Implementation>>
+    ensures { IfOk result (λ found. found ≡ implementations_in unit.now decl.now.name decl.now.item) }
 {
     match decl.item {
         Some(_) => Ok(List::new(alloc)),
@@ -48,39 +72,53 @@ fn implementations_in(alloc: Global, unit: &PackageUnit, decl: &Decl) -> Mem<Lis
     }
 }
 
-/// The names of the implementations among classifiers of a package of the type of a name.
-fn implementing(alloc: Global, unit: &PackageUnit, name: &[u8], decls: &[Decl]) -> Mem<List<Name>>
-    ensures { IfOk result (λ names. names ≡ flat_map (implementing unit.now name.now) decls.now) }
+/// The implementations among classifiers of a package of the type of a name.
+fn implementing(
+    alloc: Global,
+    unit: &PackageUnit,
+    name: &[u8],
+    decls: &[Decl],
+) -> Mem<List<Implementation>>
+    ensures { IfOk result (λ found. found ≡ flat_map (implementing unit.now name.now) decls.now) }
 {
-    let mut names = List::new(alloc);
+    let mut found = List::new(alloc);
     for decl in decls {
-        add_implementing(&mut names, alloc, unit, name, decl)?;
+        add_implementing(&mut found, alloc, unit, name, decl)?;
     }
-    Ok(names)
+    Ok(found)
 }
 
-/// Adds the name of a classifier of a package, if it is an implementation of the type of a name.
+/// Adds a classifier of a package, if it is an implementation of the type of a name.
 fn add_implementing(
-    names: &mut List<Name>,
+    found: &mut List<Implementation>,
     alloc: Global,
     unit: &PackageUnit,
     name: &[u8],
     decl: &Decl,
 ) -> Mem<()>
-    ensures { OnOk result (names.new ≡ names.old ++ implementing unit.now name.now decl.now) }
+    ensures { OnOk result (found.new ≡ found.old ++ implementing unit.now name.now decl.now) }
 {
     if is_same(decl.name.text(), name) {
-        return add_name(names, alloc, unit, decl);
+        return add_one(found, alloc, unit, decl);
     }
     Ok(())
 }
 
-/// Adds the name of a classifier of a package, if it is an implementation.
-fn add_name(names: &mut List<Name>, alloc: Global, unit: &PackageUnit, decl: &Decl) -> Mem<()>
-    ensures { OnOk result (names.new ≡ names.old ++ name_with unit.now decl.now.name decl.now.item) }
+/// Adds a classifier of a package, if it is an implementation.
+fn add_one(
+    found: &mut List<Implementation>,
+    alloc: Global,
+    unit: &PackageUnit,
+    decl: &Decl,
+) -> Mem<()>
+    ensures { OnOk result (found.new ≡ found.old ++ implementation_with unit.now decl.now decl.now.item) }
 {
     if let Some(item) = &decl.item {
-        names.push(implementation_name(alloc, unit, &decl.name, item)?)?;
+        let name = implementation_name(alloc, unit, &decl.name, item)?;
+        found.push(Implementation {
+            name,
+            spot: decl.spot,
+        })?;
     }
     Ok(())
 }

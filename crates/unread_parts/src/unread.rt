@@ -2,7 +2,7 @@
 
 ghost use Rattle.std.specs.Prelude.{◌≡◌, ◌++◌, IfOk, OnOk, flat_map};
 ghost use Rattle.instantiator.specs.Whole.{effective_in};
-ghost use Rattle.unread_parts.specs.Unread.{has_modes, modal_connection, modal_subcomponent, parts_at, told_behind, told_braces, told_connections, told_members, told_names, told_properties, told_section, told_subcomponents, unread_parts};
+ghost use Rattle.unread_parts.specs.Unread.{has_modes, modal_connection, modal_subcomponent, part_at, told_behind, told_braces, told_connections, told_members, told_parts, told_properties, told_section, told_subcomponents, unread_parts};
 
 use crate::modes::has_modes;
 use crate::pieces::{add_braces, add_section};
@@ -10,15 +10,17 @@ use aadl_syntax::{Connection, Decl, Subcomponent, TokenList};
 use component_extension::{Classifier, Effective, Inherited, classifiers_of};
 use instantiator::Instance;
 use package_index::Index;
-use plain_values::{List, Mem, Name, copied};
+use plain_values::{List, Mem, Name, Spot, copied};
 use profiles::Profile;
 use std::alloc::Global;
 
-/// A part of a component that is told, by its name: a subcomponent, a connection, or the property of a binding; or what a rate is said of.
+/// A part of a component that is told, by its name: a subcomponent, a connection, or the property of a binding; or what a rate is said of. Its
+/// spot is that of the member, or that at which the property begins.
 #[derive(Drop)]
 pub struct Part {
     pub component: u32,
     pub name: Name,
+    pub spot: Spot,
 }
 
 impl Part {
@@ -29,6 +31,7 @@ impl Part {
         Ok(Part {
             component: self.component,
             name: copied(alloc, self.name.items())?,
+            spot: self.spot,
         })
     }
 }
@@ -61,161 +64,197 @@ fn add_component(
     instance: &Instance,
     number: u32,
 ) -> Mem<()>
-    ensures { OnOk result (parts.new ≡ parts.old ++ parts_at number (told_names what instance.now.packages (effective_in instance.now number))) }
+    ensures { OnOk result (parts.new ≡ parts.old ++ told_parts what instance.now.packages number (effective_in instance.now number)) }
 {
     match instance.effective(number) {
-        Some(effective) => {
-            let names = told_names(alloc, what, instance.index(), effective)?;
-            add_parts(parts, alloc, number, names.items())
-        }
+        Some(effective) => add_told(parts, alloc, what, instance.index(), number, effective),
         None => Ok(()),
     }
 }
 
-fn add_parts(parts: &mut List<Part>, alloc: Global, number: u32, names: &[Name]) -> Mem<()>
-    ensures { OnOk result (parts.new ≡ parts.old ++ parts_at number names.now) }
+/// Adds what is told of the component of a number with this effective classifier: its members, and then its properties.
+fn add_told<'a>(
+    parts: &mut List<Part>,
+    alloc: Global,
+    what: What,
+    index: &Index<'a>,
+    number: u32,
+    effective: &Effective<'a>,
+) -> Mem<()>
+    ensures { OnOk result (parts.new ≡ parts.old ++ told_parts what index.now number effective.now) }
 {
-    for name in names {
-        let name = copied(alloc, name.items())?;
-        parts.push(Part {
-            component: number,
-            name,
-        })?;
+    add_members(parts, alloc, what, number, effective)?;
+    let classifiers = classifiers_of(alloc, index, effective.chain.items())?;
+    add_classifiers(parts, alloc, what, number, classifiers.items())
+}
+
+fn add_classifiers(
+    parts: &mut List<Part>,
+    alloc: Global,
+    what: What,
+    number: u32,
+    classifiers: &[Classifier<'_>],
+) -> Mem<()>
+    ensures { OnOk result (parts.new ≡ parts.old ++ flat_map (told_properties what number) classifiers.now) }
+{
+    for classifier in classifiers {
+        add_properties(parts, alloc, what, number, classifier)?;
     }
     Ok(())
 }
 
-/// What is told of an effective classifier: its members, and then its properties.
-fn told_names<'a>(
+/// Adds the members that are told.
+fn add_members(
+    parts: &mut List<Part>,
     alloc: Global,
     what: What,
-    index: &Index<'a>,
-    effective: &Effective<'a>,
-) -> Mem<List<Name>>
-    ensures { IfOk result (λ names. names ≡ told_names what index.now effective.now) }
-{
-    let mut names = List::new(alloc);
-    add_members(&mut names, alloc, what, effective)?;
-    let classifiers = classifiers_of(alloc, index, effective.chain.items())?;
-    for classifier in classifiers.items() {
-        add_properties(&mut names, alloc, what, classifier)?;
-    }
-    Ok(names)
-}
-
-/// Adds the names of the members that are told.
-fn add_members(names: &mut List<Name>, alloc: Global, what: What, effective: &Effective) -> Mem<()>
-    ensures { OnOk result (names.new ≡ names.old ++ told_members what effective.now) }
+    number: u32,
+    effective: &Effective,
+) -> Mem<()>
+    ensures { OnOk result (parts.new ≡ parts.old ++ told_members what number effective.now) }
 {
     match what {
         What::InModes => {
-            add_subcomponents(names, alloc, effective.members.subcomponents.items())?;
-            add_connections(names, alloc, effective.members.connections.items())
+            add_subcomponents(
+                parts,
+                alloc,
+                number,
+                effective.members.subcomponents.items(),
+            )?;
+            add_connections(parts, alloc, number, effective.members.connections.items())
         }
         What::Unread(_) | What::Rates => Ok(()),
     }
 }
 
 fn add_subcomponents(
-    names: &mut List<Name>,
+    parts: &mut List<Part>,
     alloc: Global,
+    number: u32,
     members: &[Inherited<'_, Subcomponent>],
 ) -> Mem<()>
-    ensures { OnOk result (names.new ≡ names.old ++ flat_map modal_subcomponent members.now) }
+    ensures { OnOk result (parts.new ≡ parts.old ++ flat_map (modal_subcomponent number) members.now) }
 {
     for member in members {
         let item = member.nearest().item();
         if has_modes(alloc, &item.tail)? {
-            names.push(copied(alloc, item.name.text())?)?;
+            parts.push(part_at(alloc, number, item.spot, item.name.text())?)?;
         }
     }
     Ok(())
 }
 
 fn add_connections(
-    names: &mut List<Name>,
+    parts: &mut List<Part>,
     alloc: Global,
+    number: u32,
     members: &[Inherited<'_, Connection>],
 ) -> Mem<()>
-    ensures { OnOk result (names.new ≡ names.old ++ flat_map modal_connection members.now) }
+    ensures { OnOk result (parts.new ≡ parts.old ++ flat_map (modal_connection number) members.now) }
 {
     for member in members {
         let item = member.nearest().item();
         if has_modes(alloc, &item.tail)? {
-            names.push(copied(alloc, item.name.text())?)?;
+            parts.push(part_at(alloc, number, item.spot, item.name.text())?)?;
         }
     }
     Ok(())
 }
 
+/// A part of the component of a number, which stands at this place.
+fn part_at(alloc: Global, number: u32, spot: Spot, name: &[u8]) -> Mem<Part>
+    ensures { IfOk result (λ part. part ≡ part_at number spot name.now) }
+{
+    let name = copied(alloc, name)?;
+    Ok(Part {
+        component: number,
+        name,
+        spot,
+    })
+}
+
 /// Adds what is told of the properties of a classifier.
 fn add_properties(
-    names: &mut List<Name>,
+    parts: &mut List<Part>,
     alloc: Global,
     what: What,
+    number: u32,
     classifier: &Classifier<'_>,
 ) -> Mem<()>
-    ensures { OnOk result (names.new ≡ names.old ++ told_properties what classifier.now) }
+    ensures { OnOk result (parts.new ≡ parts.old ++ told_properties what number classifier.now) }
 {
     let decl = classifier.item();
-    add_sections(names, alloc, what, decl.properties.items())?;
-    add_behind(names, alloc, what, decl)
+    add_sections(
+        parts,
+        alloc,
+        what,
+        number,
+        decl.spot.file,
+        decl.properties.items(),
+    )?;
+    add_behind(parts, alloc, what, number, decl)
 }
 
 /// Adds what is told of the braces behind the subcomponents of a classifier, and then behind its connections.
-fn add_behind(names: &mut List<Name>, alloc: Global, what: What, decl: &Decl) -> Mem<()>
-    ensures { OnOk result (names.new ≡ names.old ++ told_behind what decl.now) }
+fn add_behind(
+    parts: &mut List<Part>,
+    alloc: Global,
+    what: What,
+    number: u32,
+    decl: &Decl,
+) -> Mem<()>
+    ensures { OnOk result (parts.new ≡ parts.old ++ told_behind what number decl.now) }
 {
-    add_behind_subcomponents(names, alloc, what, decl.subcomponents.items())?;
-    add_behind_connections(names, alloc, what, decl.connections.items())
+    add_behind_subcomponents(parts, alloc, what, number, decl.subcomponents.items())?;
+    add_behind_connections(parts, alloc, what, number, decl.connections.items())
 }
 
 fn add_sections(
-    names: &mut List<Name>,
+    parts: &mut List<Part>,
     alloc: Global,
     what: What,
+    number: u32,
+    file: u32,
     sections: &[TokenList],
 ) -> Mem<()>
-    ensures { OnOk result (names.new ≡ names.old ++ flat_map (told_section what) sections.now) }
+    ensures { OnOk result (parts.new ≡ parts.old ++ flat_map (told_section what number file) sections.now) }
 {
     for section in sections {
-        add_section(names, alloc, what, section)?;
+        add_section(parts, alloc, what, number, file, section)?;
     }
     Ok(())
 }
 
 #[tactic(auto, unfolding(crate::specs::Unread::told_subcomponents))]
 fn add_behind_subcomponents(
-    names: &mut List<Name>,
+    parts: &mut List<Part>,
     alloc: Global,
     what: What,
+    number: u32,
     subcomponents: &[Subcomponent],
 ) -> Mem<()>
-    ensures { OnOk result (names.new ≡ names.old ++ told_subcomponents what subcomponents.now) }
+    ensures { OnOk result (parts.new ≡ parts.old ++ told_subcomponents what number subcomponents.now) }
 {
     for subcomponent in subcomponents {
-        add_braces(
-            names,
-            alloc,
-            what,
-            subcomponent.name.text(),
-            &subcomponent.tail,
-        )?;
+        let (file, name) = (subcomponent.spot.file, subcomponent.name.text());
+        add_braces(parts, alloc, what, number, file, name, &subcomponent.tail)?;
     }
     Ok(())
 }
 
 #[tactic(auto, unfolding(crate::specs::Unread::told_connections))]
 fn add_behind_connections(
-    names: &mut List<Name>,
+    parts: &mut List<Part>,
     alloc: Global,
     what: What,
+    number: u32,
     connections: &[Connection],
 ) -> Mem<()>
-    ensures { OnOk result (names.new ≡ names.old ++ told_connections what connections.now) }
+    ensures { OnOk result (parts.new ≡ parts.old ++ told_connections what number connections.now) }
 {
     for connection in connections {
-        add_braces(names, alloc, what, connection.name.text(), &connection.tail)?;
+        let (file, name) = (connection.spot.file, connection.name.text());
+        add_braces(parts, alloc, what, number, file, name, &connection.tail)?;
     }
     Ok(())
 }

@@ -51,7 +51,7 @@ names-takes = takes_first (identifier_takes _)
 
 pub association-takes : TakesTokens association
 unfolding association
-association-takes = takes_first names-takes
+association-takes = takes_after (λ at. takes_first names-takes)
 
 pub and_primary-takes : (inner : Rule Condition) → TakesTokens (and_primary inner)
 unfolding and_primary

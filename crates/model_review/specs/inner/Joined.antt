@@ -1,5 +1,6 @@
 -- The system of a model in which all that covers a fact is joined, and when a review tells nothing as hidden.
-use Rattle.std.specs.Prelude.{ℕ, ◌≡◌, Bool, true, false, ◌&&◌, ◌||◌, nat_eq, codes, List, [], ◌∷◌, ◌++◌, map, flat_map}
+use Rattle.std.specs.Prelude.{ℕ, ◌≡◌, Bool, true, false, ◌&&◌, nat_eq, codes, List, [], ◌∷◌, ◌++◌, map, flat_map}
+use Rattle.std.specs.List.{list_any}
 use Rattle.model_facts.specs.Facts.{outward_of}
 use Rattle.model_facts.specs.Names.{fact_name}
 use Rattle.model_facts.specs.declared.keys.FactKey.{FactKey}
@@ -52,7 +53,7 @@ pub record HasNoHidden (seen : Seen) : Type 0 where
   pub paths : of_components seen (hidden_flows true seen) ≡ []
   pub links : flat_map (hidden_link seen) seen.numbered.assembly.links ≡ []
 
--- ---- nothing is hidden in a text
+-- ---- nothing is hidden by the lines
 
 -- whether a text begins with a word
 abbrev pub begins_with : List ℕ → List ℕ → Bool
@@ -60,17 +61,12 @@ begins_with [] text = true
 begins_with (byte ∷ word) [] = false
 begins_with (byte ∷ word) (first ∷ text) = nat_eq byte first && begins_with word text
 
--- whether a line that begins with a word stands in a text, of which the first byte begins a line, or does not
-abbrev pub has_line_from : Bool → List ℕ → List ℕ → Bool
-has_line_from first word [] = false
-has_line_from first word (byte ∷ text) = (first && begins_with word (byte ∷ text)) || has_line_from (nat_eq byte 10) word text
+-- no line begins with a word
+abbrev pub HasNoLine : List ℕ → List (List ℕ) → Type 0
+HasNoLine word lines = list_any (begins_with word) lines ≡ false
 
--- no line of a text begins with a word
-abbrev pub HasNoLine : List ℕ → List ℕ → Type 0
-HasNoLine word text = has_line_from true word text ≡ false
-
--- No line of the text of a review tells a source, a path or a link as hidden.
-pub record HasNoHiddenLine (text : List ℕ) : Type 0 where
-  pub sources : HasNoLine (codes "hidden-source ") text
-  pub paths : HasNoLine (codes "hidden-path ") text
-  pub links : HasNoLine (codes "hidden-link ") text
+-- No line of a review tells a source, a path or a link as hidden.
+pub record HasNoHiddenLine (lines : List (List ℕ)) : Type 0 where
+  pub sources : HasNoLine (codes "hidden-source ") lines
+  pub paths : HasNoLine (codes "hidden-path ") lines
+  pub links : HasNoLine (codes "hidden-link ") lines

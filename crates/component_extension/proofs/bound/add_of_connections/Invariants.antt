@@ -4,4 +4,4 @@ use Rattle.component_extension.proofs.bound.add_of_connections.Given as goal
 
 abbrev pub invariant-loop-connection : goal.invariant-loop-connection
 invariant-loop-connection l =
-    l.bindings ≡ l.fn.bindings ++ flat_map (λ connection. braced_bindings connection.name connection.tail) (take l.connection-index l.connections)
+    l.bindings ≡ l.fn.bindings ++ flat_map (λ connection. braced_bindings connection.spot.file connection.name connection.tail) (take l.connection-index l.connections)

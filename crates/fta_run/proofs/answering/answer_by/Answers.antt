@@ -2,7 +2,7 @@ use Rattle.std.proofs.Common.{List, ℕ, inl, inr, refl, subst}
 use Rattle.phases.specs.inner.Meets.{IsMemory, MeetsBut}
 use Rattle.system_answers.specs.Voices.{voices_of}
 use Rattle.system_answers.proofs.Reported.{all_kept}
-use Rattle.fta_run.specs.Due.{cuts_in, events_in, first_text, fmea_in, galileo_in, make_text, manifest_in, place_in, probability_in, refusals_in, sets_of_tree, targets_in, tree_in}
+use Rattle.fta_run.specs.Due.{cuts_in, events_in, first_text, fmea_in, galileo_in, make_text, manifest_in, place_in, probability_in, refusals_in, review_in, sets_of_tree, targets_in, tree_in}
 use Rattle.fta_run.specs.Forms.{is_drawn}
 use Rattle.fta_run.specs.inner.Ready.{held_text, ready_text}
 use Rattle.fta_run.proofs.Ran.{held_is, meets_set, meets_wider, ready_held, ready_set, ready_told, told_as}
@@ -99,7 +99,10 @@ pub returns-in-Events-clause-reports : goal.returns-in-Events-clause-reports
 returns-in-Events-clause-reports g c = all_kept (λ b. (goal.Report-dyn g (b.vtable, b.value)).text b.value) (λ b. (goal.Report-dyn g (b.vtable, b.value)).label b.value) (λ b. (goal.Report-dyn g (b.vtable, b.value)).report_faults b.value) _ c.args.reports.now.items
 
 pub returns-in-Review-clause-text : goal.returns-in-Review-clause-text
-returns-in-Review-clause-text g c = rw c.in-Review.is (ready_held _ _ c.review.result c.ready_of-in-Review.result c.ready_of-in-Review.ensures (λ s memory. inl memory) c.review.ensures)
+returns-in-Review-clause-text g c =
+    let asked = c.args.asked.now in
+    let its = subst (λ (names : List (List ℕ)). MeetsBut IsMemory held_text (review_in c.args.profile asked.root names c.args.texts) c.review.result) c.items-names.ensures.items c.review.ensures in
+    rw c.in-Review.is (ready_held _ _ c.review.result c.ready_of-in-Review.result c.ready_of-in-Review.ensures (λ s memory. inl memory) its)
 
 pub returns-in-Review-clause-by_lines : goal.returns-in-Review-clause-by_lines
 returns-in-Review-clause-by_lines g c = held_is _ c.review.result c.ready_of-in-Review.result c.ready_of-in-Review.ensures

@@ -9,5 +9,5 @@ pub returns-clause-lists : goal.returns-clause-lists
 returns-clause-lists c assembly clear = nothing-hidden assembly (universe_of assembly) (effects_of assembly) clear
 
 pub returns-clause-lines : goal.returns-clause-lines
-returns-clause-lines c assembly text reviews none =
-    nothing-hidden assembly (universe_of assembly) (effects_of assembly) (none-written (seen_of assembly) text reviews none)
+returns-clause-lines c assembly reviewed reviews none =
+    nothing-hidden assembly (universe_of assembly) (effects_of assembly) (none-written (seen_of assembly) reviewed reviews none)

@@ -4,4 +4,4 @@ use Rattle.unread_parts.specs.Unread.{told_braces}
 use Rattle.unread_parts.proofs.unread.add_behind_connections.Given as goal
 
 abbrev pub invariant-loop-connection : goal.invariant-loop-connection
-invariant-loop-connection l = l.names ≡ l.fn.names ++ flat_map (λ (connection : Connection). told_braces l.what connection.name connection.tail) (take l.connection-index l.connections)
+invariant-loop-connection l = l.parts ≡ l.fn.parts ++ flat_map (λ (connection : Connection). told_braces l.what l.number connection.spot.file connection.name connection.tail) (take l.connection-index l.connections)

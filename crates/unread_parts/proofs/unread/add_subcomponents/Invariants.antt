@@ -3,4 +3,4 @@ use Rattle.unread_parts.specs.Unread.{modal_subcomponent}
 use Rattle.unread_parts.proofs.unread.add_subcomponents.Given as goal
 
 abbrev pub invariant-loop-member : goal.invariant-loop-member
-invariant-loop-member l = l.names ≡ l.fn.names ++ flat_map modal_subcomponent (take l.member-index l.members)
+invariant-loop-member l = l.parts ≡ l.fn.parts ++ flat_map (modal_subcomponent l.number) (take l.member-index l.members)
