@@ -1,4 +1,5 @@
 mod Alone
 pub mod Small
 mod Wider
+mod Above
 mod Held

@@ -17,6 +17,7 @@ use Rattle.zdd_families.proofs.Subsets.{within_from, within_has}
 use Rattle.cutset_engine.specs.inner.Families.{HasMinimalCutSets}
 use Rattle.cutset_engine.proofs.CutSets.{has-set_of}
 use Rattle.cutset_engine.proofs.InSlice.{holds_in_slice}
+use Rattle.order_bounds.specs.Targets.{IsOfShortCutSets}
 use Rattle.order_bounds.specs.inner.Orders.{covers_or_more}
 
 one_more : (b : Bool) (event : ℕ) (events : List ℕ) (bs : List Bool) → length events ≡ count_true bs → length (cond b (event ∷ events) events) ≡ count_true (b ∷ bs)
@@ -24,8 +25,7 @@ one_more true event events bs h = omega (arith, h)
 one_more false event events bs h = h
 
 -- of the events that a set has, so many are these
-counted : (set events : List ℕ) → length (filter (set_of set) events) ≡ count_true (map (has set) events)
-unfolding has
+counted : (set events : List ℕ) → length (filter (set_of set) events) ≡ count_true (map (set_of set) events)
 counted set [] = refl
 counted set (event ∷ events) = one_more (set_of set event) event (filter (set_of set) events) (map (set_of set) events) (counted set events)
 
@@ -49,6 +49,16 @@ module _ (system : System) (target most : ℕ) (family : Family) (exact : HasMin
       let c = member_covers family set on in
       let minimal = ((exact c.part).0 c.member).0 in
       (makes_hold-exact system target (set_of set)).1 (Holds-grows system target (set_of c.part) (set_of set) (within_subset c.part set c.within) target minimal.0.1)
+
+  -- the family covers what contains such a set
+  pub of_short : IsOfShortCutSets system target most (family_covers family)
+  of_short set = (
+    λ on.
+        let c = member_covers family set on in
+        let its = (exact c.part).0 c.member in
+        record { cut = c.part; minimal = its.0; short = its.1; within = within_subset c.part set c.within },
+    λ its. covers_member family its.cut set ((exact its.cut).1 (its.minimal, its.short)) (subset_within its.cut set its.within),
+  )
 
   -- no set of the family is within another
   pub antichain : IsAntichain family

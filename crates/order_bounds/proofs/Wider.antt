@@ -8,7 +8,8 @@ use Rattle.probabilities.specs.inner.Decided.{AreBoundsOf}
 use Rattle.probabilities.specs.inner.Sharp.{IsSharp}
 use Rattle.probabilities.proofs.Deciding.{rates_rated}
 use Rattle.probabilities.proofs.Setting.{rates_parted}
-use Rattle.order_bounds.specs.inner.Orders.{AreBetween, AreOrderBounds, covers_or_more}
+use Rattle.order_bounds.specs.Orders.{AreBetween}
+use Rattle.order_bounds.specs.inner.Orders.{AreOrderBounds, covers_or_more}
 
 between : (whole : ℕ) (list : List Rate) (family all : Family) (least greatest : Bounds) → AreBoundsOf whole (rates_of whole list) (length list) family least → IsSharp whole list family least
     → AreBoundsOf whole (rates_of whole list) (length list) all greatest → IsSharp whole list all greatest → AreBetween whole list (covers family) (covers all) (record { lower = least.lower; upper = greatest.upper })

@@ -1,3 +1,3 @@
+pub mod Bounds
 pub mod Many
 pub mod Orders
-pub mod Targets

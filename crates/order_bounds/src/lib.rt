@@ -5,7 +5,9 @@
 mod bounds;
 mod laws;
 mod many;
+mod target;
 mod to_order;
 
 pub use laws::small_or_many;
+pub use target::target_bounds_to_order;
 pub use to_order::bounds_to_order;

@@ -2,8 +2,8 @@
 
 ghost use Rattle.std.specs.Prelude.{◌≡◌, ◌<◌, ◌^◌, ℕ, List, IfOk, length};
 ghost use Rattle.zdd_store.specs.inner.Store.{IsIn, Keeps, family_of};
+ghost use Rattle.order_bounds.specs.Orders.{has_more};
 ghost use Rattle.order_bounds.specs.inner.Many.{AreAlone};
-ghost use Rattle.order_bounds.specs.inner.Orders.{has_more};
 ghost use Rattle.zdd_store.specs.inner.Family.{covers};
 
 use plain_values::Mem;

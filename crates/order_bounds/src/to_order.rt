@@ -1,11 +1,11 @@
 //! The bounds of a target by its sets of at most so many events.
 
-ghost use Rattle.std.specs.Prelude.{◌≡◌, IfNone, IfOk, IfSome, Some, length};
+ghost use Rattle.std.specs.Prelude.{◌≡◌, IfOk, Some, length};
 ghost use Rattle.backward_slice.specs.Slices.{IsSlice};
 ghost use Rattle.cutset_engine.specs.inner.Families.{HasMinimalCutSets};
 ghost use Rattle.probabilities.specs.inner.Decided.{FitWhole};
 ghost use Rattle.zdd_store.specs.inner.Store.{IsIn, Keeps, family_of};
-ghost use Rattle.order_bounds.specs.inner.Targets.{AreBoundsToOrder, HasMoreThanLooked};
+ghost use Rattle.order_bounds.specs.Targets.{AreToldToOrder};
 
 use crate::bounds::{Small, order_bounds};
 use backward_slice::Slice;
@@ -34,8 +34,7 @@ pub fn bounds_to_order(
     requires slice { IsSlice system.now part.now.target part.now }
     requires rates { FitWhole whole rates.now }
     requires all { length rates.now ≡ length system.now.events }
-    ensures bounds { IfOk result (λ found. IfSome found (AreBoundsToOrder whole system.now part.now.target part.now.events rates.now most)) }
-    ensures none { IfOk result (λ found. IfNone found (HasMoreThanLooked system.now part.now.target part.now.events rates.now most)) }
+    ensures { IfOk result (AreToldToOrder whole system.now part.now.target part.now.events rates.now most) }
 {
     let _count = system.events();
     let mut store = Store::new(alloc);

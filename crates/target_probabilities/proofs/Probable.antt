@@ -25,15 +25,14 @@ use Rattle.galileo_writer.specs.TreeText.{rate_of}
 use Rattle.property_reader.specs.Rates.{conservative_rate}
 use Rattle.property_reader.specs.declared.rate.Rate.{Rate}
 use Rattle.decimals.specs.declared.decimal.Decimal.{Decimal}
-use Rattle.zdd_store.specs.inner.Family.{Family, covers as family_covers, has, is_within, least_number, least_of, IsAntichain}
+use Rattle.zdd_store.specs.inner.Family.{Family, covers as family_covers, is_within, least_number, IsAntichain}
 use Rattle.zdd_store.specs.inner.Store.{Families, IsIn, IsSound, family_at, family_of}
 use Rattle.zdd_store.specs.declared.id.Id.{Id}
 use Rattle.zdd_store.proofs.Growing.{last_or_before}
 use Rattle.zdd_store.proofs.Orders.{contains_first}
-use Rattle.zdd_families.proofs.Above.{above, covers-above, has_above, least_number-most}
 use Rattle.zdd_families.proofs.Booleans.{same_test}
 use Rattle.zdd_families.proofs.Covers.{covers_member, member_covers}
-use Rattle.zdd_families.proofs.Subsets.{has_first, has_rest, within_from, within_has}
+use Rattle.zdd_families.proofs.Subsets.{within_from, within_has}
 use Rattle.probabilities.specs.declared.rates.Bounds.{Bounds}
 use Rattle.probabilities.specs.declared.rates.Rate.{Rate as EventBounds}
 use Rattle.probabilities.specs.Rates.{Rates}
@@ -41,7 +40,7 @@ use Rattle.probabilities.specs.Weights.{weight, numbers}
 use Rattle.probabilities.specs.Decided.{FitsWhole, rates_of}
 use Rattle.probabilities.specs.Certain.{certain}
 use Rattle.probabilities.specs.inner.Certain.{AreCertainBounds}
-use Rattle.probabilities.specs.inner.Cofactors.{AreDifferent, CoverTheSame, IsCofactor, IsGivenUp}
+use Rattle.probabilities.specs.inner.Cofactors.{IsGivenUp}
 use Rattle.probabilities.specs.inner.Decided.{AreBoundsOf, AreEnds, FitWhole, IsNothing, IsWhole}
 use Rattle.probabilities.specs.inner.Sharp.{AreSharp, IsSharp}
 use Rattle.probabilities.specs.inner.Widths.{IsNarrowed}
@@ -51,8 +50,9 @@ use Rattle.event_probabilities.specs.declared.rating.EventRate.{EventRate}
 use Rattle.probability_lines.specs.declared.line.EventImportance.{EventImportance}
 use Rattle.cutset_engine.specs.inner.Families.{HasMinimalCutSets}
 use Rattle.cutset_engine.proofs.CutSets.{has-set_of, holds-range}
-use Rattle.target_probabilities.specs.Probability.{AreAllApart, AreApart, AreEach, AreImportances, AreKnown, AreSharpFor, AreTargetBounds, AreTold, BoundTarget, Case, HasMoreCases, IsImportance, IsProbability, IsRateKnown, bounds_known, holds_under, hours_of, in_case, most_cases, times_held, told_events}
+use Rattle.target_probabilities.specs.Probability.{AreEach, AreImportances, AreKnown, AreSharpFor, AreTargetBounds, AreTold, BoundTarget, HasMoreCases, IsImportance, IsProbability, IsRateKnown, bounds_known, holds_under, hours_of, most_cases, times_held, told_events}
 use Rattle.target_probabilities.specs.inner.Probable.{AreKnownSo, AreOfFamily, IsOfFamily}
+use Rattle.target_probabilities.proofs.Cases.{more_cases}
 
 -- ---- lists by place
 
@@ -108,18 +108,6 @@ rises_below zero = tt
 rises_below (suc count) =
     let same : count + 1 ≡ suc count = omega arith in
     subst (λ high. RisesWithin 0 high (numbers_below (suc count))) same (rises-push 0 count (numbers_below count) (omega arith) (rises_below count))
-
--- a bound of each number is one of the least
-least_from : (low : ℕ) (set : List ℕ) → low ≤ 4294967296 → ((x : ℕ) → has set x ≡ true → low ≤ x) → low ≤ least_of set
-unfolding least_of
-least_from low [] h all = h
-least_from low (n ∷ ns) h all =
-    let rest : low ≤ least_of ns = least_from low ns h (λ x here. all x (has_rest n ns x here)) in
-    let first : low ≤ n = all n (has_first n ns) in
-    omega arith
-
-least_above : (low : ℕ) (set : List ℕ) → low ≤ 4294967296 → low ≤ least_of (above low set)
-least_above low set few = least_from low (above low set) few (λ x here. (has_above low set x here).1)
 
 module _ (system : System) (is : IsSystem system) (target : ℕ) (family : Family) (exact : HasMinimalCutSets system target None family) where
   subset_within : (part whole : List ℕ) → IsSubset part whole → is_within part whole ≡ true
@@ -216,39 +204,6 @@ module _ (system : System) (is : IsSystem system) (target : ℕ) (family : Famil
     pub importances_target : (events : List ℕ) (list : List EventImportance) → AreOfFamily whole known family events list → AreImportances whole system target known events list
     importances_target events list are = record { events_are = are.events_are; each = each_importance list are.each }
 
-  -- ---- cases
-
-  abbrev case_of : (c : Family) → IsCofactor family c → Case
-  case_of c its = record { first = its.first; occurred = its.occurred }
-
-  case_as : (c : Family) (its : IsCofactor family c) (set : List ℕ) → in_case (holds_under system target) (case_of c its) set ≡ family_covers c set
-  unfolding above
-  case_as c its set =
-      let few : its.first ≤ 4294967296 = let most = least_number-most c in let beyond = its.beyond in omega (arith, most, beyond) in
-      sym (covers_as (its.occurred ++ above its.first set)) ∙ sym (its.covering (above its.first set) (least_above its.first set few)) ∙ covers-above its.first c set its.beyond
-
-  abbrev all_cases : (cs : List Family) → AllByRecursion (IsCofactor family) cs → List Case
-  all_cases [] are = []
-  all_cases (c ∷ cs) are = case_of c are.0 ∷ all_cases cs are.1
-
-  as_many : (cs : List Family) (are : AllByRecursion (IsCofactor family) cs) → length (all_cases cs are) ≡ length cs
-  as_many [] are = refl
-  as_many (c ∷ cs) are = ap suc (as_many cs are.1)
-
-  all_earlier : (cs : List Family) (are : AllByRecursion (IsCofactor family) cs) → AllByRecursion (λ its. AllByRecursion (λ event. event < its.first) its.occurred) (all_cases cs are)
-  all_earlier [] are = tt
-  all_earlier (c ∷ cs) are = (are.0.earlier, all_earlier cs are.1)
-
-  apart_from : (c : Family) (its : IsCofactor family c) (cs : List Family) (are : AllByRecursion (IsCofactor family) cs) → AllByRecursion (λ other. CoverTheSame c other → ⊥) cs
-      → AllByRecursion (λ other. AreApart (holds_under system target) (case_of c its) other) (all_cases cs are)
-  apart_from c its [] are apart = tt
-  apart_from c its (d ∷ cs) are apart = ((λ same. apart.0 (λ set. sym (case_as c its set) ∙ same set ∙ case_as d are.0 set)), apart_from c its cs are.1 apart.1)
-
-  all_apart : (cs : List Family) (are : AllByRecursion (IsCofactor family) cs) → AreDifferent cs → AreAllApart (holds_under system target) (all_cases cs are)
-  unfolding AreDifferent
-  all_apart [] are apart = tt
-  all_apart (c ∷ cs) are apart = (apart_from c are.0 cs are.1 apart.0, all_apart cs are.1 apart.1)
-
   -- where it is given up, there are more cases
   pub given_up_cases : (count most : ℕ) → count ≡ length system.events → IsGivenUp count most family → HasMoreCases most (holds_under system target)
   given_up_cases count most all (inl event) =
@@ -256,12 +211,7 @@ module _ (system : System) (is : IsSystem system) (target : ℕ) (family : Famil
       let few = (RisesWithin-at 0 (length system.events) event.set event.event rises (sym (has-set_of event.set event.event) ∙ event.stands)).1 in
       let without = event.without in
       absurd (omega (arith, few, without, all))
-  given_up_cases count most all (inr has_more) = record {
-    cases = all_cases has_more.cofactors has_more.each;
-    more = let more = has_more.more in omega (arith, more, as_many has_more.cofactors has_more.each);
-    earlier = all_earlier has_more.cofactors has_more.each;
-    apart = all_apart has_more.cofactors has_more.each has_more.different;
-  }
+  given_up_cases count most all (inr has_more) = more_cases family (holds_under system target) covers_as most has_more
 
 -- ---- targets that hold always, or never
 

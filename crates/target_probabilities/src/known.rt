@@ -19,7 +19,7 @@ use property_reader::Rate;
 use std::alloc::Global;
 
 /// The number that the hours are, where they are given.
-pub(crate) fn numeral_of(hours: Option<&[u8]>) -> Option<Numeral>
+pub fn numeral_of(hours: Option<&[u8]>) -> Option<Numeral>
     ensures { IsReadAs (hours_of (option_copied hours.entry)) result }
 {
     match hours {
@@ -74,7 +74,7 @@ fn rate_at(rates: &[Rate], event: u32) -> Option<&Rate>
 }
 
 /// What is known of each event of a system, by its number, from the rates and so many hours.
-pub(crate) fn all_known(
+pub fn all_known(
     alloc: Global,
     system: &FaultSystem,
     rates: &[Rate],
@@ -92,7 +92,7 @@ pub(crate) fn all_known(
 }
 
 /// The bounds of the events' probabilities.
-pub(crate) fn bounds_in(alloc: Global, known: &[EventRate]) -> Mem<Vec<EventBounds>>
+pub fn bounds_in(alloc: Global, known: &[EventRate]) -> Mem<Vec<EventBounds>>
     ensures { IfOk result (λ bounds. bounds.items ≡ bounds_known known.now) }
 {
     let mut bounds = Vec::new(alloc);
@@ -103,7 +103,7 @@ pub(crate) fn bounds_in(alloc: Global, known: &[EventRate]) -> Mem<Vec<EventBoun
 }
 
 /// Whether the events have a probability.
-pub(crate) fn found_in(alloc: Global, known: &[EventRate]) -> Mem<Vec<Found>>
+pub fn found_in(alloc: Global, known: &[EventRate]) -> Mem<Vec<Found>>
     ensures { IfOk result (λ found. found.items ≡ all_found known.now) }
 {
     let mut found = Vec::new(alloc);

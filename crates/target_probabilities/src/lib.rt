@@ -6,3 +6,5 @@ mod known;
 mod told;
 
 pub use bounds::{TargetBounds, target_bounds};
+pub use known::{all_known, bounds_in, found_in, numeral_of};
+pub use told::zeros;

@@ -32,7 +32,7 @@ pub(crate) struct Told {
 }
 
 /// How many zeros the whole has: there is room for the places of all events.
-pub(crate) fn zeros() -> u32
+pub fn zeros() -> u32
     ensures { result ≡ 4000000000 }
 {
     4_000_000_000
