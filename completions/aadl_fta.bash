@@ -91,7 +91,7 @@ _aadl_fta() {
     paths) options='--limit --after --max-order --profile' files_from=4 ;;
     why | confirm) options='--set --profile' files_from=4 ;;
     place) [ "$cword" -eq 2 ] && files_from=2 ;;
-    probability) options='--hours --events --profile' files_from=4 ;;
+    probability) options='--hours --events --max-order --profile' files_from=4 ;;
     require) options='--tap --profile' files_from=3 ;;
     compare) options='--max-order --profile' files_from=4 ;;
     help)

@@ -114,8 +114,8 @@ report_stop target chosen max_order voices system = (
   λ number named. (refusal_is (HasLargeSlice system number), λ slice served. ((λ s none. absurd none), λ sets are. tt)),
 )
 
-probability_stop : (target : List ℕ) (hours : Option (List ℕ)) (asked : Bool) (system : System) (rates : List Rate) → StopsOnly IsARefusal (probability_text target hours asked system rates)
-probability_stop target hours asked system rates = (
+probability_stop : (target : List ℕ) (hours : Option (List ℕ)) (asked : Bool) (max_order : Option ℕ) (system : System) (rates : List Rate) → StopsOnly IsARefusal (probability_text target hours asked max_order system rates)
+probability_stop target hours asked max_order system rates = (
   refusal_is (IsFirst (LacksTarget system target)),
   λ number named. (refusal_is (HasLargeSlice system number), λ slice served status none. absurd none),
 )
@@ -265,8 +265,8 @@ text_stops profile kind.Refusals voices asked texts = λ status none. absurd non
 text_stops profile kind.Probability voices asked texts = (
   refusals (model_of_texts profile asked.root texts) (texts_model_stops profile asked.root texts),
   λ model at.
-      refusals (probability_text asked.target asked.options.hours (is_set asked.options (codes "events")) model.system model.rates)
-      (probability_stop asked.target asked.options.hours (is_set asked.options (codes "events")) model.system model.rates),
+      refusals (probability_text asked.target asked.options.hours (is_set asked.options (codes "events")) asked.options.paging.max_order model.system model.rates)
+      (probability_stop asked.target asked.options.hours (is_set asked.options (codes "events")) asked.options.paging.max_order model.system model.rates),
 )
 text_stops profile kind.Require voices asked texts = refusals (require_in profile asked.root (is_set asked.options (codes "tap")) texts) (require_stop profile asked.root (is_set asked.options (codes "tap")) texts)
 text_stops profile kind.Compare voices asked texts =

@@ -218,10 +218,10 @@ review_in profile root files texts = do
   reviewed ← made_of_texts review_phase profile root texts
   yields (review_text files texts reviewed.lines)
 
-abbrev pub probability_in : Profile → Root → List ℕ → Option (List ℕ) → Bool → List (List ℕ) → Phase (List ℕ)
-probability_in profile root target hours asked texts = do
+abbrev pub probability_in : Profile → Root → List ℕ → Option (List ℕ) → Bool → Option ℕ → List (List ℕ) → Phase (List ℕ)
+probability_in profile root target hours asked max_order texts = do
   model ← model_of_texts profile root texts
-  probability_text target hours asked model.system model.rates
+  probability_text target hours asked max_order model.system model.rates
 
 -- the line of a root
 abbrev pub root_line : Root → List ℕ
@@ -284,7 +284,7 @@ text_by profile kind.Review voices asked texts = review_in profile asked.root as
 text_by profile kind.Place voices asked texts = place_in asked.files asked.number texts
 text_by profile kind.Manifest voices asked texts = manifest_in profile asked.root asked.files texts
 text_by profile kind.Refusals voices asked texts = refusals_in profile asked.root asked.files texts
-text_by profile kind.Probability voices asked texts = probability_in profile asked.root asked.target asked.options.hours (is_set asked.options (codes "events")) texts
+text_by profile kind.Probability voices asked texts = probability_in profile asked.root asked.target asked.options.hours (is_set asked.options (codes "events")) asked.options.paging.max_order texts
 text_by profile kind.Require voices asked texts = require_in profile asked.root (is_set asked.options (codes "tap")) texts
 text_by profile kind.Compare voices asked texts = compared_in profile asked.root asked.target asked.number asked.options.paging.max_order texts
 text_by profile kind.Explain voices asked texts = yields (explain_text asked.target)

@@ -45,7 +45,7 @@ use phases::Status;
 use plain_values::{Name, Root, Word};
 use profiles::Profile;
 use std::alloc::Global;
-use system_answers::draw;
+use system_answers::{ProbabilityForm, draw};
 use text_places::place_text;
 
 /// The answer on a request whose files have these texts.
@@ -152,15 +152,14 @@ fn answer_by(
         Kind::Place => ready_of(place(alloc, names, asked.number, texts)),
         Kind::Manifest => ready_of(manifest(alloc, profile, root, names, texts)),
         Kind::Refusals => ready_of(refusals(alloc, profile, root, names, texts)),
-        Kind::Probability => ready_of(probability(
-            alloc,
-            profile,
-            root,
-            target,
-            &options.hours,
-            options.is_set(b"events"),
-            texts,
-        )),
+        Kind::Probability => {
+            let form = ProbabilityForm {
+                hours: &options.hours,
+                events: options.is_set(b"events"),
+                max_order,
+            };
+            ready_of(probability(alloc, profile, root, target, form, texts))
+        }
         // It is answered before.
         Kind::Require => Err(Status::Memory),
         Kind::Compare => ready_of(compare(
@@ -477,15 +476,14 @@ fn probability(
     profile: Profile,
     root: &Root,
     target: &Name,
-    hours: &Option<Name>,
-    asked: bool,
+    form: ProbabilityForm<'_>,
     texts: Texts,
 ) -> Result<Held, Status>
-    ensures { MeetsBut IsMemory held_text (probability_in profile root.now target.now hours.now asked texts) result }
+    ensures { MeetsBut IsMemory held_text (probability_in profile root.now target.now form.hours.now form.events form.max_order texts) result }
 {
     let model = flat_model(alloc, profile, root, texts)?;
     let (system, rates) = (&model.system, model.rates.items());
-    let text = system_answers::probability(alloc, system, rates, target, hours, asked)?;
+    let text = system_answers::probability(alloc, system, rates, target, form)?;
     Ok(Held::Text(text))
 }
 

@@ -201,9 +201,15 @@ is_listed given = is_given (codes "paths") given || (is_given (codes "limit") gi
 abbrev pub is_drawn_or_listed : List Given → Bool
 is_drawn_or_listed given = if is_given (codes "format") given then not (is_listed given) else not (is_given (codes "gates") given)
 
--- Whether options that are given have a meaning together: a tree that is read from a file has no sets where it is written in a format.
+-- whether not both the importance of events and a greatest number of events of a set are given
+abbrev pub is_whole_or_to_order : List Given → Bool
+is_whole_or_to_order given = not (is_given (codes "events") given && is_given (codes "max-order") given)
+
+-- Whether options that are given have a meaning together: a tree that is read from a file has no sets where it is written in a format, and the
+-- importance of events is by all sets.
 abbrev pub is_fit : Kind → List Given → Bool
 is_fit kind.Galileo given = is_drawn_or_listed given
+is_fit kind.Probability given = is_whole_or_to_order given
 is_fit _ given = true
 
 -- whether the flag of a name is given

@@ -1,7 +1,7 @@
 ghost use Rattle.std.specs.Prelude.{◌≡◌, true, ◌↔◌, ◌≤◌, ◌++◌, ℕ, length, List, IsTrue, MatchOption, ◌∷◌};
 ghost use Rattle.std.specs.List.{AllByRecursion};
 ghost use Rattle.fta_words.specs.Table.{flags_of, required_of, valued_of};
-ghost use Rattle.fta_words.specs.Words.{Given, is_drawn_or_listed, is_fit, is_given, is_listed, option_words};
+ghost use Rattle.fta_words.specs.Words.{Given, is_drawn_or_listed, is_fit, is_given, is_listed, is_whole_or_to_order, option_words};
 ghost use Rattle.fta_words.specs.inner.Reading.{Allowed, HaveOptions, NoneStandsFirst, StandsFirst};
 
 use crate::kind::Kind;
@@ -31,12 +31,13 @@ pub(crate) fn are_complete(kind: Kind, words: &[Word]) -> bool
 }
 
 /// Whether options of the command that are given have a meaning together: a tree that is read from a file has no sets where it is
-/// written in a format, and no gates are chosen where it is not.
+/// written in a format, and no gates are chosen where it is not; the importance of events is by all sets.
 pub(crate) fn are_fit(kind: Kind, words: &[Word]) -> bool
     ensures { (given : List Given) → words.now ≡ option_words given → Allowed (flags_of kind) (valued_of kind) given → IsTrue result ↔ (is_fit kind given ≡ true) }
 {
     match kind {
         Kind::Galileo => is_drawn_or_listed(kind, words),
+        Kind::Probability => is_whole_or_to_order(kind, words),
         _ => true,
     }
 }
@@ -50,6 +51,13 @@ fn is_drawn_or_listed(kind: Kind, words: &[Word]) -> bool
     } else {
         !is_given(kind, words, b"gates")
     }
+}
+
+/// Whether not both the importance of events and a greatest number of events of a set are given.
+fn is_whole_or_to_order(kind: Kind, words: &[Word]) -> bool
+    ensures { (given : List Given) → words.now ≡ option_words given → Allowed (flags_of kind) (valued_of kind) given → result ≡ is_whole_or_to_order given }
+{
+    !(is_given(kind, words, b"events") && is_given(kind, words, b"max-order"))
 }
 
 /// Whether an option of a listing is given.

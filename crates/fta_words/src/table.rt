@@ -268,10 +268,10 @@ pub const ROWS: [CommandRow; 22] = [
         name: b"probability",
         shape: Shape::Target,
         flags: &[b"events"],
-        valued: &[b"hours", b"profile"],
+        valued: &[b"hours", b"max-order", b"profile"],
         required: &[],
         usage: b"probability ROOT TARGET FILE..",
-        optional: b" [--hours T] [--events] [--profile 1|2]",
+        optional: b" [--hours T] [--events | --max-order N] [--profile 1|2]",
         about: b"how probable a target is at least and at most, by the rates of its events",
     },
     Row {

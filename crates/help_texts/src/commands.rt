@@ -202,6 +202,7 @@ pub const PROBABILITY: &[u8] =
     \n\
     --hours T      the hours in which an event with a failure rate may occur; it has no probability without\n\
     --events       of each event also the two numbers where it never occurs and where it always does\n\
+    --max-order N  by the sets of at most N events alone; the upper number counts each time that more occur\n\
     --profile 1|2  the first, or the second, which also reads recovery, noerror, orless and more bindings\n\
     \n\
     Example, in the folder of the repository:\n\

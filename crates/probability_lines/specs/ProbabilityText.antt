@@ -1,12 +1,12 @@
 -- The lines that tell of the probability of a target.
-use Rattle.std.specs.Prelude.{ℕ, List, [], ◌++◌, codes}
+use Rattle.std.specs.Prelude.{ℕ, List, [], ◌++◌, codes, decimal}
 use Rattle.std.specs.List.{flat_map}
 use Rattle.decimals.specs.DecimalTexts.{decimal_text}
 use Rattle.probabilities.specs.declared.rates.Bounds.{Bounds}
 use Rattle.event_probabilities.specs.declared.finding.Found.{Found}
 use Rattle.event_probabilities.specs.declared.finding.Found.TheVariants.{Rated, WithoutRate, WithoutHours, NoProbability}
 use Rattle.probability_lines.specs.declared.line.Line.{Line}
-use Rattle.probability_lines.specs.declared.line.Line.TheVariants.{Hours, Unrated, Large, AtLeast, AtMost, Event, End}
+use Rattle.probability_lines.specs.declared.line.Line.TheVariants.{Hours, Unrated, ByOrder, Large, AtLeast, AtMost, Event, End}
 
 -- why an event has no probability: its number is none that is read, or no probability, or no hours are given; of one without a rate nothing
 -- more is said
@@ -23,6 +23,7 @@ bounds_text whole bounds = decimal_text whole bounds.lower ++ (codes " " ++ deci
 abbrev pub line_text : ℕ → Line → List ℕ
 line_text whole (Hours hours) = codes "hours " ++ (hours ++ codes "\n")
 line_text whole (Unrated name found) = codes "unrated " ++ (name ++ (reason_text found ++ codes "\n"))
+line_text whole (ByOrder most) = codes "by sets of at most " ++ (decimal most ++ codes " events\n")
 line_text whole Large = codes "large\nat-least 0\nat-most 1\n"
 line_text whole (AtLeast bound) = codes "at-least " ++ (decimal_text whole bound ++ codes "\n")
 line_text whole (AtMost bound) = codes "at-most " ++ (decimal_text whole bound ++ codes "\n")

@@ -4,7 +4,7 @@ ghost use Rattle.std.specs.Prelude.{◌≡◌, ◌++◌, IfOk, OnOk, option_copi
 ghost use Rattle.std.specs.List.{flat_map};
 ghost use Rattle.fault_system.specs.Systems.{event_name};
 ghost use Rattle.event_probabilities.specs.declared.finding.Found.TheVariants.{Rated};
-ghost use Rattle.probability_lines.specs.Gathered.{bounds_lines, event_lines, hours_lines, lines_of, unrated_at, unrated_lines};
+ghost use Rattle.probability_lines.specs.Gathered.{bounds_lines, event_lines, hours_lines, lines_of, order_lines, unrated_at, unrated_lines};
 
 use crate::line::{EventImportance, Line};
 use event_probabilities::Found;
@@ -78,6 +78,16 @@ fn add_all_unrated(
     Ok(())
 }
 
+/// Adds the line of the greatest number of events of a set, if it is given.
+fn add_order(lines: &mut List<Line>, most: Option<u32>) -> Mem<()>
+    ensures { OnOk result (lines.new ≡ lines.old ++ order_lines most) }
+{
+    match most {
+        Some(most) => lines.push(Line::ByOrder(most)),
+        None => Ok(()),
+    }
+}
+
 /// Adds the lines of the two bounds; where none are found, they are 0 and 1.
 fn add_bounds(lines: &mut List<Line>, bounds: Option<Bounds>) -> Mem<()>
     ensures { OnOk result (lines.new ≡ lines.old ++ bounds_lines bounds) }
@@ -119,22 +129,25 @@ fn add_events(
     Ok(())
 }
 
-/// The lines of a probability: the hours, if they are given, those of these events that have none, the bounds, which are 0 and 1 where
-/// none are found, the importance of events, which may be left out, and the end.
+/// The lines of a probability: the hours, if they are given, those of these events that have none, the greatest number of events
+/// of a set, if the bounds are by such sets, the bounds, which are 0 and 1 where none are found, the importance of events, which may be left
+/// out, and the end.
 pub fn lines_of(
     alloc: Global,
     system: &FaultSystem,
     hours: Option<&[u8]>,
     events: &[u32],
     found: &[Found],
+    most: Option<u32>,
     bounds: Option<Bounds>,
     importances: &[EventImportance],
 ) -> Mem<List<Line>>
-    ensures { IfOk result (λ lines. lines ≡ lines_of system.now (option_copied hours.entry) events.now found.now bounds importances.now) }
+    ensures { IfOk result (λ lines. lines ≡ lines_of system.now (option_copied hours.entry) events.now found.now most bounds importances.now) }
 {
     let mut lines = List::new(alloc);
     add_hours(alloc, &mut lines, hours)?;
     add_all_unrated(alloc, &mut lines, system, events, found)?;
+    add_order(&mut lines, most)?;
     add_bounds(&mut lines, bounds)?;
     add_events(alloc, &mut lines, system, importances)?;
     lines.push(Line::End)?;

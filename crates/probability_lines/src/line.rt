@@ -12,6 +12,8 @@ pub enum Line {
     Hours(Name),
     /// An event that has no probability, by its name, and why.
     Unrated(Name, Found),
+    /// The bounds are by the sets of at most so many events.
+    ByOrder(u32),
     /// No bounds are found: the bounds 0 and 1.
     Large,
     /// The lower bound.

@@ -1,12 +1,13 @@
 //! Lines as bytes.
 
-ghost use Rattle.std.specs.Prelude.{◌≡◌, ◌++◌, IfOk, OnOk, codes};
+ghost use Rattle.std.specs.Prelude.{◌≡◌, ◌++◌, IfOk, OnOk, codes, decimal};
 ghost use Rattle.decimals.specs.DecimalTexts.{decimal_text};
 ghost use Rattle.probability_lines.specs.ProbabilityText.{bounds_text, line_text, lines_text, reason_text};
 
 use crate::line::Line;
 use decimals::Decimal;
 use event_probabilities::Found;
+use itoa::Buffer;
 use plain_values::Mem;
 use probabilities::Bounds;
 use std::alloc::Global;
@@ -115,6 +116,17 @@ fn push_hours(text: &mut Vec<u8>, hours: &[u8]) -> Mem<()>
     Ok(())
 }
 
+/// Adds the line of the greatest number of events of a set.
+fn push_order(text: &mut Vec<u8>, most: u32) -> Mem<()>
+    ensures { OnOk result (text.new.items ≡ text.old.items ++ (codes "by sets of at most " ++ (decimal most ++ codes " events\n"))) }
+{
+    let mut digits = Buffer::new();
+    text.extend_from_slice(b"by sets of at most ")?;
+    text.extend_from_slice(digits.format(most).as_bytes())?;
+    text.extend_from_slice(b" events\n")?;
+    Ok(())
+}
+
 /// Adds a line.
 fn push_line(text: &mut Vec<u8>, whole: u32, line: &Line) -> Mem<()>
     ensures { OnOk result (text.new.items ≡ text.old.items ++ line_text whole line.now) }
@@ -122,6 +134,7 @@ fn push_line(text: &mut Vec<u8>, whole: u32, line: &Line) -> Mem<()>
     match line {
         Line::Hours(hours) => push_hours(text, hours.items()),
         Line::Unrated(name, found) => push_unrated(text, name.items(), *found),
+        Line::ByOrder(most) => push_order(text, *most),
         Line::Large => {
             text.extend_from_slice(b"large\nat-least 0\nat-most 1\n")?;
             Ok(())

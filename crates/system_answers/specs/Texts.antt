@@ -90,12 +90,13 @@ tree_text target form system rates = do
   _ ← slice_of number system
   formed_tree number form system rates
 
--- the text of `probability`, in so many hours, if they are given, and with the importance of events, where it is asked for
-abbrev pub probability_text : List ℕ → Option (List ℕ) → Bool → System → List Rate → Phase (List ℕ)
-probability_text target hours asked system rates = do
+-- the text of `probability`, in so many hours, if they are given: by all minimal cut sets, with the importance of events, where it is asked for,
+-- or by those of at most so many events
+abbrev pub probability_text : List ℕ → Option (List ℕ) → Bool → Option ℕ → System → List Rate → Phase (List ℕ)
+probability_text target hours asked max_order system rates = do
   number ← target_of target system
   slice ← slice_of number system
-  accepts (TellsProbability system rates number slice.events hours asked)
+  accepts (TellsProbability system rates number slice.events hours asked max_order)
 
 -- the text of the chosen reports on a target's listing
 abbrev pub reports_of : ℕ → List ℕ → Option ℕ → List Voice → System → Phase (List ℕ)

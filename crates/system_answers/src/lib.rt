@@ -17,7 +17,7 @@ mod target;
 mod trees;
 
 pub use answers::{cuts, paths, report, tree};
-pub use chances::probability;
+pub use chances::{ProbabilityForm, probability};
 pub use cut_sets::{find_slice, page_writer};
 pub use derivation_laws::{accepts_why, holds_where_accepted};
 pub use derivations_text::{confirmed, why};

@@ -137,7 +137,7 @@ returns-in-Refusals-clause-reports g c = all_kept (λ b. (goal.Report-dyn g (b.v
 pub returns-in-Probability-clause-text : goal.returns-in-Probability-clause-text
 returns-in-Probability-clause-text g c =
     let asked = c.args.asked.now in
-    rw c.in-Probability.is (ready_set _ (λ flag. probability_in c.args.profile asked.root asked.target asked.options.hours flag c.args.texts) c.is_set-in-Probability.result _ c.probability.result c.ready_of-in-Probability.result c.is_set-in-Probability.ensures c.ready_of-in-Probability.ensures (λ s memory. inl memory) c.probability.ensures)
+    rw c.in-Probability.is (ready_set _ (λ flag. probability_in c.args.profile asked.root asked.target asked.options.hours flag asked.options.paging.max_order c.args.texts) c.is_set-in-Probability.result _ c.probability.result c.ready_of-in-Probability.result c.is_set-in-Probability.ensures c.ready_of-in-Probability.ensures (λ s memory. inl memory) c.probability.ensures)
 
 pub returns-in-Probability-clause-by_lines : goal.returns-in-Probability-clause-by_lines
 returns-in-Probability-clause-by_lines g c = held_is _ c.probability.result c.ready_of-in-Probability.result c.ready_of-in-Probability.ensures

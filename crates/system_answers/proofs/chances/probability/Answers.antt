@@ -1,5 +1,5 @@
-use Rattle.std.proofs.Common.{option_copied, subst}
 use Rattle.phases.proofs.Steps.{◌passes◌}
+use Rattle.std.proofs.Common.{subst}
 use Rattle.system_answers.specs.Probability.{TellsProbability}
 use Rattle.system_answers.proofs.chances.probability.Goals as goal
 
@@ -7,7 +7,8 @@ pub returns : goal.returns
 returns c =
     let system = c.args.system.now in
     let rates = c.args.rates.now in
+    let form = c.args.form in
     let part = c.in_ok-part.part in
     let text = c.in_ok-text.text.items in
-    let its = subst (λ target. TellsProbability system rates target part.events (option_copied c.hours_text.result) c.args.asked text) c.in_ok-part.ensures.passed.is_slice.target_is c.in_ok-text.ensures in
-    c.in_ok-number.ensures passes (c.in_ok-part.ensures passes (record { passed = subst (λ hours. TellsProbability system rates c.in_ok-number.number part.events hours c.args.asked text) c.hours_text.ensures its }))
+    let its = subst (λ target. TellsProbability system rates target part.events form.hours.now form.events form.max_order text) c.in_ok-part.ensures.passed.is_slice.target_is c.in_ok-text.ensures in
+    c.in_ok-number.ensures passes (c.in_ok-part.ensures passes (record { passed = its }))

@@ -1,22 +1,22 @@
-use Rattle.std.proofs.Common.{◌≡◌, option_copied, subst}
+use Rattle.std.proofs.Common.{◌≡◌, List, None, ℕ, Option, Some, ap, subst, sym, ◌∙◌}
 use Rattle.std.proofs.lemmas.Result.{IfOk-weaker}
-use Rattle.probability_lines.specs.Gathered.{lines_of}
-use Rattle.probability_lines.specs.ProbabilityText.{lines_text}
+use Rattle.system_answers.specs.Probability.{TellsProbability}
 use Rattle.system_answers.proofs.chances.text_for.Goals as goal
 
-pub returns : goal.returns
-returns c =
-    let its = c.in_ok-told.told in
-    let has = c.in_ok-told.ensures in
-    IfOk-weaker c.text_told.result _ _
-    (λ text is. record {
-      whole = its.whole;
-      wide = has.wide;
-      known = has.known;
-      are_known = has.are_known;
-      bounds = its.bounds;
-      importances = its.importances.items;
-      told = has.told;
-      text_is = subst (λ found. text.items ≡ lines_text its.whole (lines_of c.args.system.now (option_copied c.args.hours) c.args.part.now.events found its.bounds its.importances.items)) has.found_is is;
-    })
-    c.text_told.ensures
+pub returns-in-None : goal.returns-in-None
+returns-in-None c =
+    let part = c.args.part.now in
+    IfOk-weaker c.text_of_all.result _ _
+    (λ text its.
+    subst (λ (most : Option ℕ). TellsProbability c.args.system.now c.args.rates.now part.target part.events c.args.form.hours.now c.args.form.events most text.items) (sym c.in-None.is)
+    (subst (λ (hours : Option (List ℕ)). TellsProbability c.args.system.now c.args.rates.now part.target part.events hours c.args.form.events None text.items) c.hours_text-hours.ensures its))
+    c.text_of_all.ensures
+
+pub returns-in-Some : goal.returns-in-Some
+returns-in-Some c =
+    let part = c.args.part.now in
+    IfOk-weaker c.text_to_order.result _ _
+    (λ text its.
+    subst (λ (most : Option ℕ). TellsProbability c.args.system.now c.args.rates.now part.target part.events c.args.form.hours.now c.args.form.events most text.items) (sym c.in-Some.is)
+    (subst (λ (hours : Option (List ℕ)). TellsProbability c.args.system.now c.args.rates.now part.target part.events hours c.args.form.events (Some c.in-Some.most) text.items) c.hours_text-hours.ensures its))
+    (c.text_to_order.ensures c.args.form.events)
