@@ -479,7 +479,7 @@ fn probability(
     form: ProbabilityForm<'_>,
     texts: Texts,
 ) -> Result<Held, Status>
-    ensures { MeetsBut IsMemory held_text (probability_in profile root.now target.now form.hours.now form.events form.max_order texts) result }
+    ensures { MeetsBut IsMemory held_text (probability_in profile root.now target.now form.entry.hours.now form.entry.events form.entry.max_order texts) result }
 {
     let model = flat_model(alloc, profile, root, texts)?;
     let (system, rates) = (&model.system, model.rates.items());

@@ -1,5 +1,5 @@
 -- The text of the probability of a target.
-use Rattle.std.specs.Prelude.{ℕ, ◌≡◌, ◌×◌, Bool, List, [], Option, None, Some}
+use Rattle.std.specs.Prelude.{ℕ, ◌≡◌, Bool, List, [], Option, None, Some}
 use Rattle.fault_system.specs.Systems.{System}
 use Rattle.property_reader.specs.declared.rate.Rate.{Rate}
 use Rattle.probabilities.specs.declared.rates.Bounds.{Bounds}

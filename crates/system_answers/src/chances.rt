@@ -41,7 +41,7 @@ pub fn probability(
     target: &Name,
     form: ProbabilityForm<'_>,
 ) -> Result<Vec<u8>, Status>
-    ensures { MeetsBut IsMemory (λ text. text.items) (probability_text target.now form.hours.now form.events form.max_order system.now rates.now) result }
+    ensures { MeetsBut IsMemory (λ text. text.items) (probability_text target.now form.entry.hours.now form.entry.events form.entry.max_order system.now rates.now) result }
 {
     let number = find_target(system, target)?;
     let part = find_slice(alloc, system, number)?;
@@ -68,7 +68,7 @@ fn text_for(
     form: ProbabilityForm<'_>,
 ) -> Mem<Vec<u8>>
     requires { IsSlice system.now part.now.target part.now }
-    ensures { IfOk result (λ text. TellsProbability system.now rates.now part.now.target part.now.events form.hours.now form.events form.max_order text.items) }
+    ensures { IfOk result (λ text. TellsProbability system.now rates.now part.now.target part.now.events form.entry.hours.now form.entry.events form.entry.max_order text.items) }
 {
     let hours = hours_text(form.hours);
     match form.max_order {

@@ -1,4 +1,4 @@
-use Rattle.std.proofs.Common.{◌≡◌, List, None, ℕ, Option, Some, ap, subst, sym, ◌∙◌}
+use Rattle.std.proofs.Common.{List, None, ℕ, Option, Some, subst, sym}
 use Rattle.std.proofs.lemmas.Result.{IfOk-weaker}
 use Rattle.system_answers.specs.Probability.{TellsProbability}
 use Rattle.system_answers.proofs.chances.text_for.Goals as goal
