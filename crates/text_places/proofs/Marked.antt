@@ -1,5 +1,5 @@
 -- Marks: what one comes to, and that the line and the column of its byte are found by it.
-use Rattle.std.proofs.Common.{◌≡◌, ◌≤◌, ◌<◌, ◌+◌, ◌-◌, ◌==◌, ◌&&◌, ◌||◌, ℕ, zero, suc, Bool, true, false, cond, if◌then◌else◌, List, [], ◌∷◌, ◌++◌, Option, None, Some, take, drop, length, get_or, reverse, not, nat_lt, min, max, fold, filter, count_by, slice_get, refl, sym, ap, subst, ◌∙◌, append-nil, append_assoc, length-append, length-take-le, eqb-true, lt-ltb, arith}
+use Rattle.std.proofs.Common.{◌≡◌, ◌≤◌, ◌<◌, ◌+◌, ◌-◌, ◌==◌, ◌&&◌, ◌||◌, ℕ, zero, suc, Bool, true, false, cond, if◌then◌else◌, List, [], ◌∷◌, ◌++◌, Option, take, drop, length, get_or, reverse, not, nat_lt, min, max, fold, filter, count_by, slice_get, refl, sym, ap, subst, ◌∙◌, append-nil, append_assoc, length-append, length-take-le, eqb-true, lt-ltb, arith}
 use Rattle.std.specs.List.{after_last, before_first, list_any, position_or_len, prefix_len, suffix_len}
 use Rattle.std.specs.Io.BufRead.{ends_with_byte, strip_last}
 use Rattle.std.specs.Option.{option_map_or}
@@ -8,7 +8,7 @@ use Rattle.std.proofs.lemmas.List.{drop-append-le, drop_all, drop_min, get_or_pu
 use Rattle.std.proofs.lemmas.List.Elements.{filter-append}
 use Rattle.std.proofs.lemmas.List.Folds.{list_any-append}
 use Rattle.std.proofs.lemmas.List.Sums.{fold-append, suffix_len-le-length}
-use Rattle.text_places.specs.Places.{begins_character, column, first_line, is_feed, line_front, line_number, reached}
+use Rattle.text_places.specs.Places.{begins_character, column, first_line, is_feed, line_front, line_number}
 use Rattle.text_places.specs.inner.Marks.{IsMark, counted, further, further_of, mark_at, passed, start}
 use Rattle.text_places.specs.declared.mark.Mark.{Mark}
 use Rattle.text_places.proofs.Feeds.{before_no}
@@ -113,10 +113,6 @@ reads-of bytes = subst (λ l. Reads l (fold passed start l)) (reverse-reverse by
 pub mark-reads : (text : List ℕ) (byte : ℕ) → Reads (take byte text) (mark_at text byte)
 mark-reads text byte = reads-of (take byte text)
 
-pub mark-more : (text : List ℕ) (i byte : ℕ) → i < length text → byte ≡ get_or text i byte → mark_at text (i + 1) ≡ passed (mark_at text i) byte
-mark-more text i byte within at =
-    ap (fold passed start) (take_more text i byte within) ∙ fold-append passed start (take i text) (get_or text i byte ∷ []) ∙ ap (passed (mark_at text i)) (sym at)
-
 -- the byte of a mark
 pub mark-at : (text : List ℕ) (i : ℕ) → i ≤ length text → (mark_at text i).at ≡ i
 mark-at text i within = (mark-reads text i).place ∙ length-take-le i text within
@@ -134,7 +130,7 @@ few text i mark within is =
 
 -- the front of a text, one byte behind it, and so many more
 cut-more : (front : List ℕ) (byte n : ℕ) (rest : List ℕ) → take (length front + 1 + n) (front ++ byte ∷ rest) ≡ front ++ byte ∷ take n rest
-cut-more [] byte n rest = let more : length [] + 1 + n ≡ suc n = omega arith in ap (λ k. take k (byte ∷ rest)) more
+cut-more [] byte n rest = let more : length {A = ℕ} [] + 1 + n ≡ suc n = omega arith in ap (λ k. take k (byte ∷ rest)) more
 cut-more (b ∷ front) byte n rest =
     let more : length (b ∷ front) + 1 + n ≡ suc (length front + 1 + n) = omega arith in
     ap (λ k. take k (b ∷ (front ++ byte ∷ rest))) more ∙ ap (λ l. b ∷ l) (cut-more front byte n rest)
@@ -187,7 +183,7 @@ ends-so front ends =
     ∙ ap (λ n. take (length front - 1) front ++ n ∷ []) (eqb-true (get_or front (length front - 1) 0) 13 parts.1)
   where
     long : (front : List ℕ) → nat_lt 0 (length front) ≡ true → 0 < length front
-    long [] is = absurd (omega (arith, is))
+    long [] is = absurd (let e : false ≡ true = is in cc)
     long (b ∷ front) is = omega arith
 
 feed-reached : (front : List ℕ) → reached_in front (strip_last 13 front) ≡ length (filter begins_character front) + counted (not (ends_with_byte 13 front))

@@ -11,7 +11,7 @@ start = record { at = 0; feeds = 0; characters = 0 }
 
 -- one for yes
 abbrev pub counted : Bool → ℕ
-counted yes = cond yes 1 0
+counted is = cond is 1 0
 
 -- the mark behind one more byte: a line feed ends a line
 abbrev pub passed : Mark → ℕ → Mark

@@ -3,7 +3,6 @@ use Rattle.text_places.specs.inner.Marks.{mark_at}
 use Rattle.text_places.proofs.Marked.{few}
 use Rattle.text_places.proofs.table.mark_to.Goals as goal
 
--- not checked: the names of the steps are to be seen by `--start mark_to --allow-holes`
 pub returns-clause-mark : goal.returns-clause-mark
 returns-clause-mark c =
     let there : c.loop-number.number ≡ c.args.end = omega (arith, c.loop-number-test.false, c.requires.before) in

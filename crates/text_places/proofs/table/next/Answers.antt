@@ -1,10 +1,8 @@
-use Rattle.std.proofs.Common.{◌≡◌, ◌≤◌, ap, sym, ◌∙◌, get_or, length, subst, arith}
-use Rattle.text_places.specs.inner.Marks.{mark_at, passed}
+use Rattle.std.proofs.Common.{◌≡◌, ◌≤◌, ap, sym, ◌∙◌, subst, arith}
 use Rattle.text_places.specs.declared.mark.Mark.{Mark}
-use Rattle.text_places.proofs.Marked.{mark-at, mark-more, mark-reads}
+use Rattle.text_places.proofs.Marked.{mark-at, mark-reads}
 use Rattle.text_places.proofs.table.next.Goals as goal
 
--- not checked: the names of the goals are to be seen by `--start next --allow-holes`
 pub passed-requires-clause-at : goal.passed-requires-clause-at
 passed-requires-clause-at c =
     let text = c.args.text.now in
@@ -16,8 +14,3 @@ passed-requires-clause-feeds c = subst (λ (mark : Mark). mark.feeds ≤ mark.at
 
 pub passed-requires-clause-characters : goal.passed-requires-clause-characters
 passed-requires-clause-characters c = subst (λ (mark : Mark). mark.characters ≤ mark.at) (sym c.requires.mark) (mark-reads c.args.text.now c.args.number).few_characters
-
-pub returns : goal.returns
-returns c =
-    let text = c.args.text.now in
-    c.passed.ensures ∙ ap (λ (mark : Mark). passed mark c.index.result) c.requires.mark ∙ sym (mark-more text c.args.number c.index.result c.requires.within c.index.is)
