@@ -41,7 +41,7 @@ use Rattle.listing_changes.specs.Changes.{TellsChanges}
 use Rattle.listing_changes.proofs.Texts.{text-once}
 use Rattle.fta_run.specs.Compared.{compared_text}
 use Rattle.fta_run.specs.Sets.{set_asked}
-use Rattle.fta_run.specs.Due.{compared_in, confirmed_in, cuts_in, due, first_text, galileo_in, is_require, made_of_texts, made_root, made_target, make_text, model_of_texts, other_texts, output_for, output_with, require_in, required_in, sets_of_tree, sized_text, text_by, texts_of, units_of, within_limits}
+use Rattle.fta_run.specs.Due.{compared_in, confirmed_in, cuts_in, due, first_text, galileo_in, is_require, made_of_texts, made_root, made_target, make_text, model_of_texts, other_texts, output_for, output_with, require_in, required_in, sets_of_tree, sized_text, text_by, told_of_tree, texts_of, units_of, within_limits}
 use Rattle.fta_run.specs.inner.Texts.{request_text, text_due}
 use Rattle.fta_run.specs.Required.{Output, TellsLines}
 use Rattle.fta_run.proofs.RequiredLaws.{lines-decided, output-decided, required-opened}
@@ -227,12 +227,24 @@ tree_opened target form system rates is = (
 decided_opened : {A : Type 0} (phase : Phase A) → IsDecided IsSameStatus phase → IsDecidedButLast IsSameStatus phase
 decided_opened = opened IsSameStatus
 
+-- what is told of a tree that is read from a file
+told_decided : (told : Bool) (options : Options) (text : List ℕ) → told ≡ false → IsDecided IsSameStatus (told_of_tree told options text)
+told_decided true options text sets = absurd (false≢true (sym sets))
+told_decided false options text sets = tree_sets_decided (is_set options (codes "paths")) (is_wide options.form) options.paging.limit options.paging.max_order text
+
+told_opened : (told : Bool) (options : Options) (text : List ℕ) → IsDecidedButLast IsSameStatus (told_of_tree told options text)
+told_opened true options text = (
+  named_tree_decided IsSameStatus itself (is_wide options.form) text,
+  λ tree read. (slice_decided IsSameStatus itself (top_of_tree tree tree.top) (system_of tree), λ slice served. ((λ its status tells none. none), λ a b none other. absurd none)),
+)
+told_opened false options text = decided_opened (told_of_tree false options text) (told_decided false options text refl)
+
 -- what is asked of a tree that is read from a file
-galileo_in_decided : (drawn : Bool) (options : Options) (files texts : List (List ℕ)) → is_merging options.form ≡ false → IsDecided IsSameStatus (galileo_in drawn options files texts)
+galileo_in_decided : (drawn : Bool) (options : Options) (files texts : List (List ℕ)) → (is_merging options.form ≡ false) × (is_set options (codes "probability") ≡ false) → IsDecided IsSameStatus (galileo_in drawn options files texts)
 galileo_in_decided true options files texts keeps =
-    subst (λ merged. IsDecided IsSameStatus (drawn_text (is_wide options.form) merged (picture_legend (drawn_words merged) files texts) (first_text texts))) (sym keeps)
+    subst (λ merged. IsDecided IsSameStatus (drawn_text (is_wide options.form) merged (picture_legend (drawn_words merged) files texts) (first_text texts))) (sym keeps.0)
     (drawn_decided IsSameStatus itself (is_wide options.form) (picture_legend (drawn_words false) files texts) (first_text texts))
-galileo_in_decided false options files texts keeps = tree_sets_decided (is_set options (codes "paths")) (is_wide options.form) options.paging.limit options.paging.max_order (first_text texts)
+galileo_in_decided false options files texts keeps = told_decided (is_set options (codes "probability")) options (first_text texts) keeps.1
 
 galileo_in_opened : (drawn : Bool) (options : Options) (files texts : List (List ℕ)) → IsDecidedButLast IsSameStatus (galileo_in drawn options files texts)
 galileo_in_opened true options files texts = (
@@ -242,9 +254,7 @@ galileo_in_opened true options files texts = (
     λ slice served. formed_opened (top_of_tree tree tree.top) (drawn_form (is_merging options.form) (picture_legend (drawn_words (is_merging options.form)) files texts)) (system_of tree) (rates_of tree) (tree-system tree (tree-named read.0 tree read.2)),
   ),
 )
-galileo_in_opened false options files texts =
-    decided_opened (sets_of_tree (is_set options (codes "paths")) (is_wide options.form) options.paging.limit options.paging.max_order (first_text texts))
-    (tree_sets_decided (is_set options (codes "paths")) (is_wide options.form) options.paging.limit options.paging.max_order (first_text texts))
+galileo_in_opened false options files texts = told_opened (is_set options (codes "probability")) options (first_text texts)
 
 -- ---- what a request asks for
 

@@ -35,7 +35,7 @@ use Rattle.system_answers.specs.Targets.{LacksStart, LacksTarget}
 use Rattle.galileo_reader.specs.TreeSystems.{system_of, target_of as top_of_tree}
 use Rattle.system_answers.specs.Galileo.{LacksNamedTree}
 use Rattle.system_answers.specs.Derivations.{IsNotGood, LacksSteps, LacksWhy, confirm_text, why_text}
-use Rattle.system_answers.specs.Texts.{begin_of, cuts_text, drawn_form, formed_tree, galileo_paths_text, galileo_text, paths_text, probability_text, rates_of, report_text, tree_text}
+use Rattle.system_answers.specs.Texts.{begin_of, cuts_text, drawn_form, formed_tree, galileo_paths_text, galileo_probability_text, galileo_text, paths_text, probability_text, rates_of, report_text, tree_text}
 use Rattle.path_sets.specs.Duals.{dual_of}
 use Rattle.page_tokens.specs.Forms.{IsMalformed}
 use Rattle.page_tokens.specs.Keys.{asked_digits}
@@ -44,7 +44,7 @@ use Rattle.path_sets.specs.PathSets.{HasLargePaths}
 use Rattle.system_answers.specs.inner.Ends.{EndsReports}
 use Rattle.fta_run.specs.Compared.{compared_text}
 use Rattle.fta_run.specs.Sets.{set_asked}
-use Rattle.fta_run.specs.Due.{compared_in, confirmed_in, cuts_in, due, first_text, galileo_in, is_require, made_of_texts, made_root, made_target, make_text, model_of_texts, other_texts, output_for, output_with, report_in, require_in, required_in, sets_of_tree, sized_text, text_by, texts_of, within_limits}
+use Rattle.fta_run.specs.Due.{compared_in, confirmed_in, cuts_in, due, first_text, galileo_in, is_require, made_of_texts, made_root, made_target, make_text, model_of_texts, other_texts, output_for, output_with, report_in, require_in, required_in, sets_of_tree, sized_text, text_by, told_of_tree, texts_of, within_limits}
 use Rattle.fta_run.specs.inner.Texts.{request_text, text_due, text_for}
 use Rattle.fta_run.specs.Required.{Output, TellsLines, with_all_met}
 use Rattle.fta_run.specs.Forms.{drawn_words, is_drawn, is_merging, is_wide, picture_legend, profile_of, tree_form, tree_words}
@@ -135,6 +135,12 @@ galileo_paths_stop wide limit max_order text = (
   ),
 )
 
+probable_stop : (wide : Bool) (hours : Option (List ℕ)) (asked : Bool) (max_order : Option ℕ) (text : List ℕ) → StopsOnly IsARefusal (galileo_probability_text wide hours asked max_order text)
+probable_stop wide hours asked max_order text = (
+  refusal_is (LacksNamedTree wide text),
+  λ tree read. (refusal_is (HasLargeSlice (system_of tree) (top_of_tree tree tree.top)), λ slice served status none. absurd none),
+)
+
 sized_stop : (model : FlatModel) → StopsOnly IsARefusal (sized_text model)
 sized_stop model = (
   refusal_is (IsFirst (LacksTarget model.system made_target)),
@@ -166,6 +172,10 @@ tree_sets_stop : (paths wide : Bool) (limit max_order : Option ℕ) (text : List
 tree_sets_stop true wide limit max_order text = galileo_paths_stop wide limit max_order text
 tree_sets_stop false wide limit max_order text = galileo_stop wide limit max_order text
 
+told_stop : (told : Bool) (options : Options) (text : List ℕ) → StopsOnly IsARefusal (told_of_tree told options text)
+told_stop true options text = probable_stop (is_wide options.form) options.hours (is_set options (codes "events")) options.paging.max_order text
+told_stop false options text = tree_sets_stop (is_set options (codes "paths")) (is_wide options.form) options.paging.limit options.paging.max_order text
+
 galileo_in_stop : (drawn : Bool) (options : Options) (files texts : List (List ℕ)) → StopsOnly IsAnEnd (galileo_in drawn options files texts)
 galileo_in_stop true options files texts = (
   (λ s is. inl (refusal_is (LacksNamedTree (is_wide options.form) (first_text texts)) s is)),
@@ -175,7 +185,7 @@ galileo_in_stop true options files texts = (
   ),
 )
 galileo_in_stop false options files texts =
-    refusals (sets_of_tree (is_set options (codes "paths")) (is_wide options.form) options.paging.limit options.paging.max_order (first_text texts)) (tree_sets_stop (is_set options (codes "paths")) (is_wide options.form) options.paging.limit options.paging.max_order (first_text texts))
+    refusals (told_of_tree (is_set options (codes "probability")) options (first_text texts)) (told_stop (is_set options (codes "probability")) options (first_text texts))
 
 why_stop : (target set : List ℕ) (system : System) → StopsOnly IsARefusal (why_text target set system)
 why_stop target set system = (

@@ -40,7 +40,7 @@ use Rattle.fta_run.specs.Sets.{set_asked}
 use Rattle.fta_run.specs.Required.{Output, required_lines, required_text, with_all_met}
 use Rattle.fta_run.specs.Text.{numbers_text}
 use Rattle.system_answers.specs.Derivations.{confirm_text, why_text}
-use Rattle.system_answers.specs.Texts.{cuts_text, drawn_text, galileo_paths_text, galileo_text, paths_text, probability_text, report_text, slice_of, target_of, tree_text}
+use Rattle.system_answers.specs.Texts.{cuts_text, drawn_text, galileo_paths_text, galileo_probability_text, galileo_text, paths_text, probability_text, report_text, slice_of, target_of, tree_text}
 use Rattle.system_answers.specs.Voices.{Voice, labels}
 
 -- these texts, where none is too long, and they are not too long together
@@ -149,10 +149,15 @@ abbrev pub sets_of_tree : Bool → Bool → Option ℕ → Option ℕ → List �
 sets_of_tree true wide limit max_order text = galileo_paths_text wide limit max_order text
 sets_of_tree false wide limit max_order text = galileo_text wide limit max_order text
 
--- the text of `galileo` of the first of these texts: a picture of the tree, or sets
+-- the text of `galileo` of a text, but for a picture: how probable the top of its tree is, or sets
+abbrev pub told_of_tree : Bool → Options → List ℕ → Phase (List ℕ)
+told_of_tree true options text = galileo_probability_text (is_wide options.form) options.hours (is_set options (codes "events")) options.paging.max_order text
+told_of_tree false options text = sets_of_tree (is_set options (codes "paths")) (is_wide options.form) options.paging.limit options.paging.max_order text
+
+-- the text of `galileo` of the first of these texts: a picture of the tree, or what is told of it
 abbrev pub galileo_in : Bool → Options → List (List ℕ) → List (List ℕ) → Phase (List ℕ)
 galileo_in true options files texts = drawn_text (is_wide options.form) (is_merging options.form) (picture_legend (drawn_words (is_merging options.form)) files texts) (first_text texts)
-galileo_in false options files texts = sets_of_tree (is_set options (codes "paths")) (is_wide options.form) options.paging.limit options.paging.max_order (first_text texts)
+galileo_in false options files texts = told_of_tree (is_set options (codes "probability")) options (first_text texts)
 
 -- the text of `cuts` for the model of the root in files of these texts, with the digits of the key of what it is asked of, where they
 -- are asked for

@@ -12,12 +12,12 @@ ghost use Rattle.model_phases.specs.Named.{IsPlainModel};
 ghost use Rattle.system_answers.specs.inner.Ends.{EndsReports};
 ghost use Rattle.system_answers.specs.Voices.{voices_of};
 ghost use Rattle.fta_run.specs.Answers.{is_by_lines};
-ghost use Rattle.fta_run.specs.Due.{check_in, compared_in, cuts_in, events_in, first_name, first_text, fmea_in, galileo_in, is_require, made_of_texts, manifest_in, model_of_texts, output_for, paths_in, place_in, probability_in, refusals_in, report_in, required_in, review_in, sets_of_tree, targets_in, text_by, tree_in, why_in};
+ghost use Rattle.fta_run.specs.Due.{check_in, compared_in, cuts_in, events_in, first_name, first_text, fmea_in, galileo_in, is_require, made_of_texts, manifest_in, model_of_texts, output_for, paths_in, place_in, probability_in, refusals_in, report_in, required_in, review_in, sets_of_tree, targets_in, text_by, told_of_tree, tree_in, why_in};
 ghost use Rattle.fta_run.specs.inner.Texts.{text_for};
 ghost use Rattle.fta_run.specs.Forms.{drawn_words, is_drawn, picture_legend};
 ghost use Rattle.fta_run.specs.inner.Ready.{IsByLines, answer_output, held_text, ready_text};
 ghost use Rattle.fta_words.specs.Words.{is_set};
-ghost use Rattle.system_answers.specs.Texts.{drawn_text};
+ghost use Rattle.system_answers.specs.Texts.{drawn_text, galileo_probability_text};
 
 use crate::compared::compared;
 use crate::confirmed::confirmation;
@@ -45,7 +45,7 @@ use phases::Status;
 use plain_values::{Name, Root, Word};
 use profiles::Profile;
 use std::alloc::Global;
-use system_answers::{ProbabilityForm, draw};
+use system_answers::{ProbabilityForm, draw, tree_probability};
 use text_places::place_text;
 
 /// The answer on a request whose files have these texts.
@@ -284,18 +284,48 @@ fn report(
     Ok(Held::Text(text))
 }
 
-/// A picture of the tree in the first text, or a page of its sets.
+/// A picture of the tree in the first text, or what else is told of it.
 fn galileo(alloc: Global, options: &Options, names: &[Word], texts: Texts) -> Result<Ready, Status>
     ensures text { MeetsBut IsMemory ready_text (galileo_in (is_drawn options.now.form) options.now names.now texts) result }
     ensures by_lines { IfOk result (λ ready. IsByLines ready → is_drawn options.now.form ≡ true) }
 {
-    let wide = is_wide(&options.form);
     if is_drawn(&options.form) {
+        let wide = is_wide(&options.form);
         return picture(alloc, wide, is_merging(&options.form), names, texts);
+    }
+    ready_of(told_of_tree(alloc, options, texts))
+}
+
+/// How probable the top of the tree in the first text is, or a page of its sets.
+fn told_of_tree(alloc: Global, options: &Options, texts: Texts) -> Result<Held, Status>
+    ensures { MeetsBut IsMemory held_text (told_of_tree (is_set options.now (codes "probability")) options.now (first_text texts)) result }
+{
+    let wide = is_wide(&options.form);
+    if options.is_set(b"probability") {
+        let form = ProbabilityForm {
+            hours: &options.hours,
+            events: options.is_set(b"events"),
+            max_order: options.paging.max_order,
+        };
+        return probability_of_tree(alloc, wide, form, texts);
     }
     let paging = &options.paging;
     let paths = options.is_set(b"paths");
-    ready_of(sets_of_tree(alloc, texts, wide, paging.limit, paging.max_order, paths))
+    sets_of_tree(alloc, texts, wide, paging.limit, paging.max_order, paths)
+}
+
+/// How probable the top of the tree in the first text is, in so many hours, if they are given; with the importance of each event, where
+/// it is asked for.
+fn probability_of_tree(
+    alloc: Global,
+    wide: bool,
+    form: ProbabilityForm<'_>,
+    texts: Texts,
+) -> Result<Held, Status>
+    ensures { MeetsBut IsMemory held_text (galileo_probability_text wide form.hours.now form.events form.max_order (first_text texts)) result }
+{
+    let text = tree_probability(alloc, texts.first(), wide, form)?;
+    Ok(Held::Text(text))
 }
 
 /// A picture of the tree in the first text.

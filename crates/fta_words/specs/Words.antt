@@ -205,10 +205,23 @@ is_drawn_or_listed given = if is_given (codes "format") given then not (is_liste
 abbrev pub is_whole_or_to_order : List Given → Bool
 is_whole_or_to_order given = not (is_given (codes "events") given && is_given (codes "max-order") given)
 
--- Whether options that are given have a meaning together: a tree that is read from a file has no sets where it is written in a format, and the
--- importance of events is by all sets.
+-- whether an option of a page of sets, or of a picture, is given
+abbrev pub is_shown : List Given → Bool
+is_shown given = is_given (codes "paths") given || (is_given (codes "limit") given || (is_given (codes "format") given || is_given (codes "gates") given))
+
+-- whether an option of a probability is given
+abbrev pub is_timed : List Given → Bool
+is_timed given = is_given (codes "hours") given || is_given (codes "events") given
+
+-- whether options of a tree that is read from a file have a meaning together: those of a probability where one is asked for, and else those
+-- of a listing or of a picture
+abbrev pub is_told_or_shown : List Given → Bool
+is_told_or_shown given = if is_given (codes "probability") given then not (is_shown given) && is_whole_or_to_order given else not (is_timed given) && is_drawn_or_listed given
+
+-- Whether options that are given have a meaning together: a tree that is read from a file has no sets where it is written in a format, neither
+-- where its probability is asked for, and the importance of events is by all sets.
 abbrev pub is_fit : Kind → List Given → Bool
-is_fit kind.Galileo given = is_drawn_or_listed given
+is_fit kind.Galileo given = is_told_or_shown given
 is_fit kind.Probability given = is_whole_or_to_order given
 is_fit _ given = true
 

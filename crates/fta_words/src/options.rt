@@ -1,7 +1,7 @@
 ghost use Rattle.std.specs.Prelude.{◌≡◌, true, ◌↔◌, ◌≤◌, ◌++◌, ℕ, length, List, IsTrue, MatchOption, ◌∷◌};
 ghost use Rattle.std.specs.List.{AllByRecursion};
 ghost use Rattle.fta_words.specs.Table.{flags_of, required_of, valued_of};
-ghost use Rattle.fta_words.specs.Words.{Given, is_drawn_or_listed, is_fit, is_given, is_listed, is_whole_or_to_order, option_words};
+ghost use Rattle.fta_words.specs.Words.{Given, is_drawn_or_listed, is_fit, is_given, is_listed, is_shown, is_timed, is_told_or_shown, is_whole_or_to_order, option_words};
 ghost use Rattle.fta_words.specs.inner.Reading.{Allowed, HaveOptions, NoneStandsFirst, StandsFirst};
 
 use crate::kind::Kind;
@@ -31,15 +31,45 @@ pub(crate) fn are_complete(kind: Kind, words: &[Word]) -> bool
 }
 
 /// Whether options of the command that are given have a meaning together: a tree that is read from a file has no sets where it is
-/// written in a format, and no gates are chosen where it is not; the importance of events is by all sets.
+/// written in a format, and no gates are chosen where it is not, and neither where its probability is asked for; the importance of events
+/// is by all sets.
 pub(crate) fn are_fit(kind: Kind, words: &[Word]) -> bool
     ensures { (given : List Given) → words.now ≡ option_words given → Allowed (flags_of kind) (valued_of kind) given → IsTrue result ↔ (is_fit kind given ≡ true) }
 {
     match kind {
-        Kind::Galileo => is_drawn_or_listed(kind, words),
+        Kind::Galileo => is_told_or_shown(kind, words),
         Kind::Probability => is_whole_or_to_order(kind, words),
         _ => true,
     }
+}
+
+/// Whether options of a tree that is read from a file have a meaning together: those of a probability where one is asked for, and else
+/// those of a listing or of a picture.
+fn is_told_or_shown(kind: Kind, words: &[Word]) -> bool
+    ensures { (given : List Given) → words.now ≡ option_words given → Allowed (flags_of kind) (valued_of kind) given → result ≡ is_told_or_shown given }
+{
+    if is_given(kind, words, b"probability") {
+        !is_shown(kind, words) && is_whole_or_to_order(kind, words)
+    } else {
+        !is_timed(kind, words) && is_drawn_or_listed(kind, words)
+    }
+}
+
+/// Whether an option of a page of sets, or of a picture, is given.
+fn is_shown(kind: Kind, words: &[Word]) -> bool
+    ensures { (given : List Given) → words.now ≡ option_words given → Allowed (flags_of kind) (valued_of kind) given → result ≡ is_shown given }
+{
+    is_given(kind, words, b"paths")
+        || is_given(kind, words, b"limit")
+        || is_given(kind, words, b"format")
+        || is_given(kind, words, b"gates")
+}
+
+/// Whether an option of a probability is given.
+fn is_timed(kind: Kind, words: &[Word]) -> bool
+    ensures { (given : List Given) → words.now ≡ option_words given → Allowed (flags_of kind) (valued_of kind) given → result ≡ is_timed given }
+{
+    is_given(kind, words, b"hours") || is_given(kind, words, b"events")
 }
 
 /// Whether no option of a listing is given where a format is, and no gates where none is.

@@ -44,7 +44,15 @@ const NO_NAMES: Names = &[];
 pub type CommandRow = Row<&'static [u8], Names>;
 
 /// The flags of all commands.
-pub const FLAGS: [&'static str; 6] = ["tokens", "all", "text", "paths", "events", "tap"];
+pub const FLAGS: [&'static str; 7] = [
+    "tokens",
+    "all",
+    "text",
+    "paths",
+    "events",
+    "tap",
+    "probability",
+];
 
 /// The options of all commands that have a value.
 pub const VALUED: [&'static str; 10] = [
@@ -157,12 +165,19 @@ pub const ROWS: [CommandRow; 22] = [
         kind: Kind::Galileo,
         name: b"galileo",
         shape: Shape::File,
-        flags: &[b"paths"],
-        valued: &[b"limit", b"max-order", b"profile", b"format", b"gates"],
+        flags: &[b"paths", b"probability", b"events"],
+        valued: &[
+            b"limit",
+            b"max-order",
+            b"profile",
+            b"format",
+            b"gates",
+            b"hours",
+        ],
         required: &[],
         usage: b"galileo FILE",
-        optional: b" [--profile 1|2] [--paths] [--limit N] [--max-order N] | [--format dot] [--gates written|merged]",
-        about: b"the minimal cut sets, or path sets, of a tree in Galileo text; or its picture",
+        optional: b" [--profile 1|2] [--paths] [--limit N] [--max-order N] | --format dot [--gates written|merged] | --probability [--hours T] [--events | --max-order N]",
+        about: b"the minimal cut sets, or path sets, of a tree in Galileo text; its picture; or how probable its top is",
     },
     Row {
         kind: Kind::Paths,

@@ -2,7 +2,7 @@
 
 ghost use Rattle.std.specs.Prelude.{◌≡◌, ◌++◌, IfOk, OnOk, codes, decimal};
 ghost use Rattle.decimals.specs.DecimalTexts.{decimal_text};
-ghost use Rattle.probability_lines.specs.ProbabilityText.{bounds_text, line_text, lines_text, reason_text};
+ghost use Rattle.probability_lines.specs.ProbabilityText.{bounds_text, line_text, lines_text, name_text, reason_text};
 
 use crate::line::Line;
 use decimals::Decimal;
@@ -83,25 +83,41 @@ fn push_named(text: &mut Vec<u8>, word: &[u8], name: &[u8]) -> Mem<()>
     Ok(())
 }
 
+/// Adds a name as it is, or in quotes.
+fn push_name(text: &mut Vec<u8>, name: &[u8], quoted: bool) -> Mem<()>
+    ensures { OnOk result (text.new.items ≡ text.old.items ++ name_text quoted name.now) }
+{
+    if quoted {
+        push_named(text, b"\"", name)?;
+        text.push(b'"')?;
+    } else {
+        text.extend_from_slice(name)?;
+    }
+    Ok(())
+}
+
 /// Adds the line of an event's importance.
 fn push_event(
     text: &mut Vec<u8>,
+    quoted: bool,
     whole: u32,
     name: &[u8],
     never: &Bounds,
     always: &Bounds,
 ) -> Mem<()>
-    ensures { OnOk result (text.new.items ≡ text.old.items ++ (codes "event " ++ (name.now ++ (codes " never " ++ (bounds_text whole never.now ++ (codes " always " ++ (bounds_text whole always.now ++ codes "\n"))))))) }
+    ensures { OnOk result (text.new.items ≡ text.old.items ++ (codes "event " ++ (name_text quoted name.now ++ (codes " never " ++ (bounds_text whole never.now ++ (codes " always " ++ (bounds_text whole always.now ++ codes "\n"))))))) }
 {
-    push_named(text, b"event ", name)?;
+    text.extend_from_slice(b"event ")?;
+    push_name(text, name, quoted)?;
     push_both(text, whole, never, always)
 }
 
 /// Adds the line of an event without a probability.
-fn push_unrated(text: &mut Vec<u8>, name: &[u8], found: Found) -> Mem<()>
-    ensures { OnOk result (text.new.items ≡ text.old.items ++ (codes "unrated " ++ (name.now ++ (reason_text found ++ codes "\n")))) }
+fn push_unrated(text: &mut Vec<u8>, quoted: bool, name: &[u8], found: Found) -> Mem<()>
+    ensures { OnOk result (text.new.items ≡ text.old.items ++ (codes "unrated " ++ (name_text quoted name.now ++ (reason_text found ++ codes "\n")))) }
 {
-    push_named(text, b"unrated ", name)?;
+    text.extend_from_slice(b"unrated ")?;
+    push_name(text, name, quoted)?;
     push_reason(text, found)?;
     text.push(b'\n')?;
     Ok(())
@@ -128,12 +144,12 @@ fn push_order(text: &mut Vec<u8>, most: u32) -> Mem<()>
 }
 
 /// Adds a line.
-fn push_line(text: &mut Vec<u8>, whole: u32, line: &Line) -> Mem<()>
-    ensures { OnOk result (text.new.items ≡ text.old.items ++ line_text whole line.now) }
+fn push_line(text: &mut Vec<u8>, quoted: bool, whole: u32, line: &Line) -> Mem<()>
+    ensures { OnOk result (text.new.items ≡ text.old.items ++ line_text quoted whole line.now) }
 {
     match line {
         Line::Hours(hours) => push_hours(text, hours.items()),
-        Line::Unrated(name, found) => push_unrated(text, name.items(), *found),
+        Line::Unrated(name, found) => push_unrated(text, quoted, name.items(), *found),
         Line::ByOrder(most) => push_order(text, *most),
         Line::Large => {
             text.extend_from_slice(b"large\nat-least 0\nat-most 1\n")?;
@@ -141,7 +157,9 @@ fn push_line(text: &mut Vec<u8>, whole: u32, line: &Line) -> Mem<()>
         }
         Line::AtLeast(bound) => push_bound(text, b"at-least ", whole, *bound),
         Line::AtMost(bound) => push_bound(text, b"at-most ", whole, *bound),
-        Line::Event(name, never, always) => push_event(text, whole, name.items(), never, always),
+        Line::Event(name, never, always) => {
+            push_event(text, quoted, whole, name.items(), never, always)
+        }
         Line::End => {
             text.extend_from_slice(b"end\n")?;
             Ok(())
@@ -149,13 +167,13 @@ fn push_line(text: &mut Vec<u8>, whole: u32, line: &Line) -> Mem<()>
     }
 }
 
-/// The text of some lines, with decimals as parts of the whole.
-pub fn text_of(alloc: Global, lines: &[Line], whole: u32) -> Mem<Vec<u8>>
-    ensures { IfOk result (λ text. text.items ≡ lines_text whole lines.now) }
+/// The text of some lines, with decimals as parts of the whole; names of events may stand in quotes.
+pub fn text_of(alloc: Global, lines: &[Line], whole: u32, quoted: bool) -> Mem<Vec<u8>>
+    ensures { IfOk result (λ text. text.items ≡ lines_text quoted whole lines.now) }
 {
     let mut text = Vec::new(alloc);
     for line in lines {
-        push_line(&mut text, whole, line)?;
+        push_line(&mut text, quoted, whole, line)?;
     }
     Ok(text)
 }

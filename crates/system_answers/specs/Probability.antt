@@ -17,9 +17,9 @@ abbrev pub AreToldBy : Option ℕ → ℕ → System → ℕ → List ℕ → Li
 AreToldBy None whole system target events known asked bounds importances = AreTold whole system target known (told_events asked events) bounds importances
 AreToldBy (Some most) whole system target events known asked bounds importances = AreToldToOrder whole system target events known most bounds × (importances ≡ [])
 
--- The text of the probability of a target that depends on these events, in so many hours, if they are given; with the importance of each of
--- the events, where that is asked for; or by its minimal cut sets of at most so many events.
-pub record TellsProbability (system : System) (rates : List Rate) (target : ℕ) (events : List ℕ) (hours : Option (List ℕ)) (asked : Bool) (max_order : Option ℕ) (text : List ℕ) : Type 0 where
+-- The text of the probability of a target that depends on these events, in which names may stand in quotes, in so many hours, if they are
+-- given; with the importance of each of the events, where that is asked for; or by its minimal cut sets of at most so many events.
+pub record TellsProbability (quoted : Bool) (system : System) (rates : List Rate) (target : ℕ) (events : List ℕ) (hours : Option (List ℕ)) (asked : Bool) (max_order : Option ℕ) (text : List ℕ) : Type 0 where
   pub whole : ℕ
   pub wide : whole ≡ 4000000000
   pub known : List EventRate
@@ -27,4 +27,4 @@ pub record TellsProbability (system : System) (rates : List Rate) (target : ℕ)
   pub bounds : Option Bounds
   pub importances : List EventImportance
   pub told : AreToldBy max_order whole system target events (bounds_known known) asked bounds importances
-  pub text_is : text ≡ lines_text whole (lines_of system hours events (all_found known) max_order bounds importances)
+  pub text_is : text ≡ lines_text quoted whole (lines_of system hours events (all_found known) max_order bounds importances)

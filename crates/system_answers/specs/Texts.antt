@@ -7,6 +7,7 @@ use Rattle.backward_slice.specs.Slices.{HasLargeSlice, IsServed}
 use Rattle.backward_slice.specs.declared.parts.Slice.{Slice}
 use Rattle.property_reader.specs.declared.rate.Rate.{Rate}
 use Rattle.round_gates.specs.Targets.{IsTreeFor}
+use Rattle.rate_numerals.specs.Rates.{rates_of as rates_in_numerals}
 use Rattle.round_gates.specs.declared.tree.Tree.{Tree}
 use Rattle.cutset_writer.specs.Text.{listing_page, marked_page}
 use Rattle.cutset_writer.specs.declared.form.SetForm.{SetForm}
@@ -96,7 +97,7 @@ abbrev pub probability_text : List ℕ → Option (List ℕ) → Bool → Option
 probability_text target hours asked max_order system rates = do
   number ← target_of target system
   slice ← slice_of number system
-  accepts (TellsProbability system rates number slice.events hours asked max_order)
+  accepts (TellsProbability false system rates number slice.events hours asked max_order)
 
 -- the text of the chosen reports on a target's listing
 abbrev pub reports_of : ℕ → List ℕ → Option ℕ → List Voice → System → Phase (List ℕ)
@@ -181,3 +182,16 @@ abbrev pub drawn_text : Bool → Bool → List (List ℕ) → List ℕ → Phase
 drawn_text wide merged legend text = do
   tree ← named_tree wide text
   drawn_tree merged legend tree
+
+-- how probable the top of a tree is, with names in quotes, in so many hours, if they are given: by all minimal cut sets, with the importance
+-- of events, where it is asked for, or by those of at most so many events
+abbrev pub probable_tree : Option (List ℕ) → Bool → Option ℕ → NamedTree → Phase (List ℕ)
+probable_tree hours asked max_order tree = do
+  slice ← slice_of (top_of_tree tree tree.top) (system_of tree)
+  accepts (TellsProbability true (system_of tree) (rates_in_numerals tree) (top_of_tree tree tree.top) slice.events hours asked max_order)
+
+-- the text of `galileo` with `--probability`
+abbrev pub galileo_probability_text : Bool → Option (List ℕ) → Bool → Option ℕ → List ℕ → Phase (List ℕ)
+galileo_probability_text wide hours asked max_order text = do
+  tree ← named_tree wide text
+  probable_tree hours asked max_order tree

@@ -45,7 +45,7 @@ pub fn probability(
 {
     let number = find_target(system, target)?;
     let part = find_slice(alloc, system, number)?;
-    let text = text_for(alloc, system, rates, &part, form)?;
+    let text = text_for(alloc, system, rates, &part, form, false)?;
     Ok(text)
 }
 
@@ -59,21 +59,22 @@ fn hours_text(hours: &Option<Name>) -> Option<&[u8]>
     }
 }
 
-/// The text of the probability of the target of a slice.
-fn text_for(
+/// The text of the probability of the target of a slice, in which names may stand in quotes.
+pub(crate) fn text_for(
     alloc: Global,
     system: &FaultSystem,
     rates: &[Rate],
     part: &Slice,
     form: ProbabilityForm<'_>,
+    quoted: bool,
 ) -> Mem<Vec<u8>>
     requires { IsSlice system.now part.now.target part.now }
-    ensures { IfOk result (λ text. TellsProbability system.now rates.now part.now.target part.now.events form.entry.hours.now form.entry.events form.entry.max_order text.items) }
+    ensures { IfOk result (λ text. TellsProbability quoted system.now rates.now part.now.target part.now.events form.entry.hours.now form.entry.events form.entry.max_order text.items) }
 {
     let hours = hours_text(form.hours);
     match form.max_order {
-        None => text_of_all(alloc, system, rates, part, hours, form.events),
-        Some(most) => text_to_order(alloc, system, rates, part, hours, most),
+        None => text_of_all(alloc, system, rates, part, hours, form.events, quoted),
+        Some(most) => text_to_order(alloc, system, rates, part, hours, most, quoted),
     }
 }
 
@@ -85,12 +86,13 @@ fn text_of_all(
     part: &Slice,
     hours: Option<&[u8]>,
     asked: bool,
+    quoted: bool,
 ) -> Mem<Vec<u8>>
     requires { IsSlice system.now part.now.target part.now }
-    ensures { IfOk result (λ text. TellsProbability system.now rates.now part.now.target part.now.events (option_copied hours.entry) asked None text.items) }
+    ensures { IfOk result (λ text. TellsProbability quoted system.now rates.now part.now.target part.now.events (option_copied hours.entry) asked None text.items) }
 {
     let told = target_bounds(alloc, system, rates, part, hours, asked)?;
-    text_told(alloc, system, part, hours, None, &told)
+    text_told(alloc, system, part, hours, None, &told, quoted)
 }
 
 /// The text by those of at most so many events.
@@ -101,12 +103,13 @@ fn text_to_order(
     part: &Slice,
     hours: Option<&[u8]>,
     most: u32,
+    quoted: bool,
 ) -> Mem<Vec<u8>>
     requires { IsSlice system.now part.now.target part.now }
-    ensures { (asked : Bool) → IfOk result (λ text. TellsProbability system.now rates.now part.now.target part.now.events (option_copied hours.entry) asked (Some most) text.items) }
+    ensures { (asked : Bool) → IfOk result (λ text. TellsProbability quoted system.now rates.now part.now.target part.now.events (option_copied hours.entry) asked (Some most) text.items) }
 {
     let told = target_bounds_to_order(alloc, system, rates, part, hours, most)?;
-    text_told(alloc, system, part, hours, Some(most), &told)
+    text_told(alloc, system, part, hours, Some(most), &told, quoted)
 }
 
 /// The text of what is told of the target of a slice.
@@ -117,8 +120,9 @@ fn text_told(
     hours: Option<&[u8]>,
     most: Option<u32>,
     told: &TargetBounds,
+    quoted: bool,
 ) -> Mem<Vec<u8>>
-    ensures { IfOk result (λ text. text.items ≡ lines_text told.now.whole (lines_of system.now (option_copied hours.entry) part.now.events told.now.found.items most told.now.bounds told.now.importances.items)) }
+    ensures { IfOk result (λ text. text.items ≡ lines_text quoted told.now.whole (lines_of system.now (option_copied hours.entry) part.now.events told.now.found.items most told.now.bounds told.now.importances.items)) }
 {
     let lines = lines_of(
         alloc,
@@ -130,5 +134,5 @@ fn text_told(
         told.bounds,
         told.importances.as_slice(),
     )?;
-    text_of(alloc, lines.items(), told.whole)
+    text_of(alloc, lines.items(), told.whole, quoted)
 }

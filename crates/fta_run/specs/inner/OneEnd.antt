@@ -1,12 +1,12 @@
 -- How far the end of a phase is decided, where the text of a tree with merged gates is the last of it.
-use Rattle.std.specs.Prelude.{◌≡◌, false, List, ℕ, Option, Result, MatchResult}
+use Rattle.std.specs.Prelude.{◌≡◌, false, List, ℕ, Option, Result, MatchResult, codes}
 use Rattle.phases.specs.Phases.{Phase, Passed, yields, tells, chains}
 use Rattle.phases.specs.inner.Phases.{IsDecided}
 use Rattle.phases.specs.declared.status.Status.{Status}
 use Rattle.fta_words.specs.declared.kind.Kind.TheVariants as kind
 use Rattle.fta_run.specs.Answers.{AskForSets}
 use Rattle.fta_run.specs.Forms.{is_merging}
-use Rattle.fta_run.specs.Words.{IsRequest, Kind, Request}
+use Rattle.fta_run.specs.Words.{IsRequest, Kind, Request, is_set}
 use Rattle.system_answers.specs.Voices.{Voice, labels}
 
 -- Two ends of a phase are alike: both are values, or the statuses are the same.
@@ -23,7 +23,7 @@ IsDecidedButLast Same (chains {A = A} first later) = IsDecided Same first × ((x
 -- of a syntax error, of which only that it is dead is said; and not for a probability, of which more than one pair of bounds is right.
 abbrev pub KeepsGates : Kind → Request → Type 0
 KeepsGates kind.Tree asked = is_merging asked.options.form ≡ false
-KeepsGates kind.Galileo asked = is_merging asked.options.form ≡ false
+KeepsGates kind.Galileo asked = (is_merging asked.options.form ≡ false) × (is_set asked.options (codes "probability") ≡ false)
 KeepsGates kind.Refusals asked = ⊥
 KeepsGates kind.Probability asked = ⊥
 KeepsGates _ asked = Unit {0}

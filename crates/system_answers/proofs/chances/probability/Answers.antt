@@ -10,5 +10,5 @@ returns c =
     let form = c.args.form in
     let part = c.in_ok-part.part in
     let text = c.in_ok-text.text.items in
-    let its = subst (λ target. TellsProbability system rates target part.events form.hours.now form.events form.max_order text) c.in_ok-part.ensures.passed.is_slice.target_is c.in_ok-text.ensures in
+    let its = subst (λ target. TellsProbability false system rates target part.events form.hours.now form.events form.max_order text) c.in_ok-part.ensures.passed.is_slice.target_is c.in_ok-text.ensures in
     c.in_ok-number.ensures passes (c.in_ok-part.ensures passes (record { passed = its }))

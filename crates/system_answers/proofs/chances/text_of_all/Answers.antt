@@ -17,6 +17,6 @@ returns c =
       bounds = its.bounds;
       importances = its.importances.items;
       told = has.told;
-      text_is = subst (λ found. text.items ≡ lines_text its.whole (lines_of c.args.system.now (option_copied c.args.hours) c.args.part.now.events found None its.bounds its.importances.items)) has.found_is is;
+      text_is = subst (λ found. text.items ≡ lines_text c.args.quoted its.whole (lines_of c.args.system.now (option_copied c.args.hours) c.args.part.now.events found None its.bounds its.importances.items)) has.found_is is;
     })
     c.text_told.ensures
