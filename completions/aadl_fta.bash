@@ -77,7 +77,7 @@ _aadl_fta() {
       _aadl_fta_names "$cur" 'orders uses singles'
       return
       ;;
-    --limit | --after | --max-order | --set | --hours) return ;;
+    --limit | --after | --max-order | --hours | --set) return ;;
   esac
   # The options of the command, and the number of its first word that is a file.
   case ${words[1]} in
@@ -87,7 +87,7 @@ _aadl_fta() {
     fmea | targets) options='--all --profile' files_from=3 ;;
     report) options='--reports --max-order --profile' files_from=4 ;;
     make) options='--text' ;;
-    galileo) options='--profile --paths --limit --max-order --format --gates' files_from=2 ;;
+    galileo) options='--profile --paths --limit --max-order --format --gates --probability --hours --events' files_from=2 ;;
     paths) options='--limit --after --max-order --profile' files_from=4 ;;
     why | confirm) options='--set --profile' files_from=4 ;;
     place) [ "$cword" -eq 2 ] && files_from=2 ;;

@@ -32,7 +32,7 @@ use Rattle.fta_run.specs.Files.{AreTokens, AreUnits, HasTooLong, HasTooMuch, Lac
 use Rattle.fta_run.specs.Model.{HasDuplicate, root_named}
 use Rattle.system_answers.specs.Derivations.{why_text}
 use Rattle.property_reader.specs.declared.rate.Rate.{Rate}
-use Rattle.system_answers.specs.Texts.{cuts_text, drawn_form, drawn_text, formed_tree, paths_text, rates_of, tree_text}
+use Rattle.system_answers.specs.Texts.{cuts_text, drawn_form, drawn_rates, drawn_text, formed_tree, paths_text, tree_text}
 use Rattle.system_answers.specs.declared.form.TreeForm.{TreeForm}
 use Rattle.system_answers.proofs.Derived.{confirm_decided, why_decided}
 use Rattle.system_answers.proofs.Decided.{cuts_decided, drawn_decided, galileo_paths_text_decided, galileo_text_decided, listing_decided, named_tree_decided, paths_decided, rated_decided, report_decided, slice_decided, target_decided, tree_decided, tree_for_decided}
@@ -48,7 +48,7 @@ use Rattle.fta_run.proofs.RequiredLaws.{lines-decided, output-decided, required-
 use Rattle.target_orders.specs.Text.{TellsOrders}
 use Rattle.target_orders.proofs.Said.{one-text}
 use Rattle.fta_run.specs.Effects.{asked_targets}
-use Rattle.fta_run.specs.Forms.{drawn_words, is_drawn, is_merging, is_wide, picture_legend, profile_of, tree_form, tree_words}
+use Rattle.fta_run.specs.Forms.{drawn_words, is_drawn, is_exchanged, is_merging, is_wide, picture_legend, profile_of, tree_form, tree_words}
 use Rattle.galileo_reader.specs.TreeSystems.{system_of, target_of as top_of_tree}
 use Rattle.galileo_reader.proofs.SystemLaws.{tree-system}
 use Rattle.galileo_reader.proofs.TreeTexts.{tree-named}
@@ -242,8 +242,8 @@ told_opened false options text = decided_opened (told_of_tree false options text
 -- what is asked of a tree that is read from a file
 galileo_in_decided : (drawn : Bool) (options : Options) (files texts : List (List ℕ)) → (is_merging options.form ≡ false) × (is_set options (codes "probability") ≡ false) → IsDecided IsSameStatus (galileo_in drawn options files texts)
 galileo_in_decided true options files texts keeps =
-    subst (λ merged. IsDecided IsSameStatus (drawn_text (is_wide options.form) merged (picture_legend (drawn_words merged) files texts) (first_text texts))) (sym keeps.0)
-    (drawn_decided IsSameStatus itself (is_wide options.form) (picture_legend (drawn_words false) files texts) (first_text texts))
+    subst (λ merged. IsDecided IsSameStatus (drawn_text (is_wide options.form) (is_exchanged options.form) merged (picture_legend (drawn_words merged) files texts) (first_text texts))) (sym keeps.0)
+    (drawn_decided IsSameStatus itself (is_wide options.form) (is_exchanged options.form) (picture_legend (drawn_words false) files texts) (first_text texts))
 galileo_in_decided false options files texts keeps = told_decided (is_set options (codes "probability")) options (first_text texts) keeps.1
 
 galileo_in_opened : (drawn : Bool) (options : Options) (files texts : List (List ℕ)) → IsDecidedButLast IsSameStatus (galileo_in drawn options files texts)
@@ -251,7 +251,7 @@ galileo_in_opened true options files texts = (
   named_tree_decided IsSameStatus itself (is_wide options.form) (first_text texts),
   λ tree read. (
     slice_decided IsSameStatus itself (top_of_tree tree tree.top) (system_of tree),
-    λ slice served. formed_opened (top_of_tree tree tree.top) (drawn_form (is_merging options.form) (picture_legend (drawn_words (is_merging options.form)) files texts)) (system_of tree) (rates_of tree) (tree-system tree (tree-named read.0 tree read.2)),
+    λ slice served. formed_opened (top_of_tree tree tree.top) (drawn_form (is_exchanged options.form) (is_merging options.form) (picture_legend (drawn_words (is_merging options.form)) files texts)) (system_of tree) (drawn_rates (is_exchanged options.form) tree) (tree-system tree (tree-named read.0 tree read.2)),
   ),
 )
 galileo_in_opened false options files texts = told_opened (is_set options (codes "probability")) options (first_text texts)

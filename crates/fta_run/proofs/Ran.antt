@@ -35,7 +35,7 @@ use Rattle.system_answers.specs.Targets.{LacksStart, LacksTarget}
 use Rattle.galileo_reader.specs.TreeSystems.{system_of, target_of as top_of_tree}
 use Rattle.system_answers.specs.Galileo.{LacksNamedTree}
 use Rattle.system_answers.specs.Derivations.{IsNotGood, LacksSteps, LacksWhy, confirm_text, why_text}
-use Rattle.system_answers.specs.Texts.{begin_of, cuts_text, drawn_form, formed_tree, galileo_paths_text, galileo_probability_text, galileo_text, paths_text, probability_text, rates_of, report_text, tree_text}
+use Rattle.system_answers.specs.Texts.{begin_of, cuts_text, drawn_form, drawn_rates, formed_tree, galileo_paths_text, galileo_probability_text, galileo_text, paths_text, probability_text, report_text, tree_text}
 use Rattle.path_sets.specs.Duals.{dual_of}
 use Rattle.page_tokens.specs.Forms.{IsMalformed}
 use Rattle.page_tokens.specs.Keys.{asked_digits}
@@ -47,7 +47,7 @@ use Rattle.fta_run.specs.Sets.{set_asked}
 use Rattle.fta_run.specs.Due.{compared_in, confirmed_in, cuts_in, due, first_text, galileo_in, is_require, made_of_texts, made_root, made_target, make_text, model_of_texts, other_texts, output_for, output_with, report_in, require_in, required_in, sets_of_tree, sized_text, text_by, told_of_tree, texts_of, within_limits}
 use Rattle.fta_run.specs.inner.Texts.{request_text, text_due, text_for}
 use Rattle.fta_run.specs.Required.{Output, TellsLines, with_all_met}
-use Rattle.fta_run.specs.Forms.{drawn_words, is_drawn, is_merging, is_wide, picture_legend, profile_of, tree_form, tree_words}
+use Rattle.fta_run.specs.Forms.{drawn_words, is_drawn, is_exchanged, is_merging, is_wide, picture_legend, profile_of, tree_form, tree_words}
 use Rattle.fta_words.specs.declared.command.Options.{Options}
 use Rattle.fta_run.specs.Later.{IsLater}
 use Rattle.system_answers.specs.declared.form.TreeForm.{TreeForm}
@@ -181,7 +181,7 @@ galileo_in_stop true options files texts = (
   (λ s is. inl (refusal_is (LacksNamedTree (is_wide options.form) (first_text texts)) s is)),
   λ tree read. (
     (λ s is. inl (refusal_is (HasLargeSlice (system_of tree) (top_of_tree tree tree.top)) s is)),
-    λ slice served. formed_stop (top_of_tree tree tree.top) (drawn_form (is_merging options.form) (picture_legend (drawn_words (is_merging options.form)) files texts)) (system_of tree) (rates_of tree),
+    λ slice served. formed_stop (top_of_tree tree tree.top) (drawn_form (is_exchanged options.form) (is_merging options.form) (picture_legend (drawn_words (is_merging options.form)) files texts)) (system_of tree) (drawn_rates (is_exchanged options.form) tree),
   ),
 )
 galileo_in_stop false options files texts =

@@ -15,7 +15,7 @@ use Rattle.text_places.specs.Places.{place_text}
 use Rattle.help_texts.specs.Texts.{explain_text, help_text, version_text}
 use Rattle.fmea_rows.specs.Rows.{rows_of}
 use Rattle.fmea_rows.specs.Text.{table_text}
-use Rattle.fta_run.specs.Forms.{drawn_words, is_drawn, is_merging, is_wide, picture_legend, profile_of, tree_form, tree_words}
+use Rattle.fta_run.specs.Forms.{drawn_words, is_drawn, is_exchanged, is_merging, is_wide, picture_legend, profile_of, tree_form, tree_words}
 use Rattle.fta_words.specs.declared.command.Form.{Form}
 use Rattle.fta_words.specs.declared.command.Options.{Options}
 use Rattle.fta_words.specs.declared.command.Paging.{Paging}
@@ -154,9 +154,9 @@ abbrev pub told_of_tree : Bool → Options → List ℕ → Phase (List ℕ)
 told_of_tree true options text = galileo_probability_text (is_wide options.form) options.hours (is_set options (codes "events")) options.paging.max_order text
 told_of_tree false options text = sets_of_tree (is_set options (codes "paths")) (is_wide options.form) options.paging.limit options.paging.max_order text
 
--- the text of `galileo` of the first of these texts: a picture of the tree, or what is told of it
+-- the text of `galileo` of the first of these texts: the tree in a format, or what is told of it
 abbrev pub galileo_in : Bool → Options → List (List ℕ) → List (List ℕ) → Phase (List ℕ)
-galileo_in true options files texts = drawn_text (is_wide options.form) (is_merging options.form) (picture_legend (drawn_words (is_merging options.form)) files texts) (first_text texts)
+galileo_in true options files texts = drawn_text (is_wide options.form) (is_exchanged options.form) (is_merging options.form) (picture_legend (drawn_words (is_merging options.form)) files texts) (first_text texts)
 galileo_in false options files texts = told_of_tree (is_set options (codes "probability")) options (first_text texts)
 
 -- the text of `cuts` for the model of the root in files of these texts, with the digits of the key of what it is asked of, where they

@@ -1,5 +1,5 @@
 -- In which form a tree is written, by the words.
-use Rattle.std.specs.Prelude.{ℕ, Bool, true, false, if◌then◌else◌, List, [], ◌∷◌, ◌++◌, codes}
+use Rattle.std.specs.Prelude.{ℕ, Bool, true, false, ◌||◌, if◌then◌else◌, List, [], ◌∷◌, ◌++◌, codes}
 use Rattle.plain_values.specs.Name.{is_same_text}
 use Rattle.plain_values.specs.declared.name.Root.{Root}
 use Rattle.page_tokens.specs.Keys.{root_text}
@@ -16,9 +16,13 @@ use Rattle.system_answers.specs.declared.form.TreeFormat.TheVariants.{Galileo, M
 abbrev pub format_named : List ℕ → TreeFormat
 format_named name = if is_same_text name (codes "mef") then Mef else (if is_same_text name (codes "dot") then Dot else Galileo)
 
--- whether a tree that is read from a file is to be drawn
+-- whether a tree that is read from a file is to be written in the Open-PSA Model Exchange Format
+abbrev pub is_exchanged : Form → Bool
+is_exchanged form = is_same_text form.format (codes "mef")
+
+-- whether it is to be written in a format, or drawn
 abbrev pub is_drawn : Form → Bool
-is_drawn form = is_same_text form.format (codes "dot")
+is_drawn form = is_same_text form.format (codes "dot") || is_exchanged form
 
 -- whether the second profile is asked for
 abbrev pub is_second : Form → Bool

@@ -22,7 +22,7 @@ ghost use Rattle.system_answers.specs.Texts.{drawn_text, galileo_probability_tex
 use crate::compared::compared;
 use crate::confirmed::confirmation;
 use crate::fmea::table_of;
-use crate::forms::{drawn_legend, is_drawn, is_merging, is_wide, profile_of, tree_form};
+use crate::forms::{drawn_legend, is_drawn, is_exchanged, is_merging, is_wide, profile_of, tree_form};
 use crate::input::Texts;
 use crate::made::make;
 use crate::manifest::manifest_text;
@@ -284,14 +284,16 @@ fn report(
     Ok(Held::Text(text))
 }
 
-/// A picture of the tree in the first text, or what else is told of it.
+/// The tree in the first text in a format, or what else is told of it.
 fn galileo(alloc: Global, options: &Options, names: &[Word], texts: Texts) -> Result<Ready, Status>
     ensures text { MeetsBut IsMemory ready_text (galileo_in (is_drawn options.now.form) options.now names.now texts) result }
     ensures by_lines { IfOk result (λ ready. IsByLines ready → is_drawn options.now.form ≡ true) }
 {
     if is_drawn(&options.form) {
         let wide = is_wide(&options.form);
-        return picture(alloc, wide, is_merging(&options.form), names, texts);
+        let exchanged = is_exchanged(&options.form);
+        let merged = is_merging(&options.form);
+        return picture(alloc, wide, exchanged, merged, names, texts);
     }
     ready_of(told_of_tree(alloc, options, texts))
 }
@@ -328,18 +330,19 @@ fn probability_of_tree(
     Ok(Held::Text(text))
 }
 
-/// A picture of the tree in the first text.
+/// A picture of the tree in the first text, or its text in the Open-PSA Model Exchange Format.
 fn picture(
     alloc: Global,
     wide: bool,
+    exchanged: bool,
     merged: bool,
     names: &[Word],
     texts: Texts,
 ) -> Result<Ready, Status>
-    ensures { MeetsBut IsMemory ready_text (drawn_text wide merged (picture_legend (drawn_words merged) names.now texts) (first_text texts)) result }
+    ensures { MeetsBut IsMemory ready_text (drawn_text wide exchanged merged (picture_legend (drawn_words merged) names.now texts) (first_text texts)) result }
 {
     let legend = drawn_legend(alloc, merged, names, &texts)?;
-    let text = draw(alloc, texts.first(), wide, merged, legend)?;
+    let text = draw(alloc, texts.first(), wide, exchanged, merged, legend)?;
     Ok(Ready::Tree(text))
 }
 

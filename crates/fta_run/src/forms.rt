@@ -1,7 +1,7 @@
 //! In which form a tree is written, by the words.
 
 ghost use Rattle.std.specs.Prelude.{◌≡◌, ◌∷◌, ◌++◌, IfOk, OnOk};
-ghost use Rattle.fta_run.specs.Forms.{drawn_words, format_named, gates_words, is_drawn, is_merging, is_rated, is_second, is_wide, legend_in, picture_legend, profile_of, profile_words, tree_form, tree_words};
+ghost use Rattle.fta_run.specs.Forms.{drawn_words, format_named, gates_words, is_drawn, is_exchanged, is_merging, is_rated, is_second, is_wide, legend_in, picture_legend, profile_of, profile_words, tree_form, tree_words};
 
 use crate::input::Texts;
 use crate::manifest::push_root;
@@ -102,11 +102,18 @@ fn is_rated(form: &Form) -> bool
     is_same(form.unrated.items(), b"refuse")
 }
 
-/// Whether a tree that is read from a file is to be drawn.
+/// Whether a tree that is read from a file is to be written in the Open-PSA Model Exchange Format.
+pub fn is_exchanged(form: &Form) -> bool
+    ensures { result ≡ is_exchanged form.now }
+{
+    is_same(form.format.items(), b"mef")
+}
+
+/// Whether a tree that is read from a file is to be written in a format, or drawn.
 pub fn is_drawn(form: &Form) -> bool
     ensures { result ≡ is_drawn form.now }
 {
-    is_same(form.format.items(), b"dot")
+    is_same(form.format.items(), b"dot") || is_exchanged(form)
 }
 
 /// The legend of the picture of a tree that is read from a file, of files of these names with these texts.

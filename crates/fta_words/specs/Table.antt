@@ -63,7 +63,7 @@ all_flags = map (λ name. name.now) FLAGS
 abbrev pub all_codes : List (List ℕ)
 all_codes = map (λ name. name.now) CODES
 
--- the formats in which it writes a tree: one that is read from a file is drawn alone
+-- the formats in which it writes a tree: one that is read from a file is written in two of them
 abbrev pub formats_of : Kind → List (List ℕ)
 formats_of kind.Galileo = map (λ name. name.now) DRAWN_FORMATS
 formats_of _ = map (λ name. name.now) FORMATS

@@ -71,8 +71,8 @@ pub const VALUED: [&'static str; 10] = [
 /// The formats in which a tree of a model may be written: Galileo text, the Open-PSA Model Exchange Format, and a picture for Graphviz.
 pub const FORMATS: [&'static [u8]; 3] = [b"galileo", b"mef", b"dot"];
 
-/// The formats in which a tree that is read from a file may be written: a picture alone.
-pub const DRAWN_FORMATS: [&'static [u8]; 1] = [b"dot"];
+/// The formats in which a tree that is read from a file may be written: the Open-PSA Model Exchange Format, and a picture for Graphviz.
+pub const DRAWN_FORMATS: [&'static [u8]; 2] = [b"mef", b"dot"];
 
 /// Which gates a tree has: those of the model's formulas, or merged ones.
 pub const GATES: [&'static [u8]; 2] = [b"written", b"merged"];
@@ -176,8 +176,8 @@ pub const ROWS: [CommandRow; 22] = [
         ],
         required: &[],
         usage: b"galileo FILE",
-        optional: b" [--profile 1|2] [--paths] [--limit N] [--max-order N] | --format dot [--gates written|merged] | --probability [--hours T] [--events | --max-order N]",
-        about: b"the minimal cut sets, or path sets, of a tree in Galileo text; its picture; or how probable its top is",
+        optional: b" [--profile 1|2] [--paths] [--limit N] [--max-order N] | --format mef|dot [--gates written|merged] | --probability [--hours T] [--events | --max-order N]",
+        about: b"the minimal cut sets, or path sets, of a tree in Galileo text; the tree as Open-PSA text or a picture; or how probable its top is",
     },
     Row {
         kind: Kind::Paths,
@@ -433,7 +433,7 @@ pub(crate) fn required_of(kind: Kind) -> Names
     row.required
 }
 
-/// The formats in which a command writes a tree: one that is read from a file is drawn alone.
+/// The formats in which a command writes a tree: one that is read from a file is written in two of them.
 pub fn formats_of(kind: Kind) -> &'static [&'static [u8]]
     ensures { map (λ name. name.now) result.now ≡ formats_of kind }
 {

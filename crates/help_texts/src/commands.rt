@@ -81,8 +81,11 @@ pub const GALILEO: &[u8] =
     --paths                 the minimal path sets\n\
     --limit N               at most N sets\n\
     --max-order N           only sets of at most N events\n\
-    --format dot            no sets, but a picture of the tree, as of tree\n\
+    --format mef|dot        no sets, but the tree as Open-PSA text or as a picture, as of tree\n\
     --gates written|merged  with --format: gates as the text has them, or merged, as of tree\n\
+    --probability           no sets, but how probable the top is at least and at most, as of probability\n\
+    --hours T               with --probability: the hours in which an event with a failure rate may occur\n\
+    --events                with --probability: of each event the two numbers where it never or always occurs\n\
     \n\
     Example, in the folder of the repository:\n\
     ./aadl_fta tree Acs::Control.dual 'root/out:torque{errors::serviceomission}' examples/attitude_control.aadl > torque.dft\n\

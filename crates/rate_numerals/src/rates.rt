@@ -1,6 +1,9 @@
 //! The rates of the events of a tree.
 
-ghost use Rattle.std.specs.Prelude.{◌≡◌, IfOk, map};
+ghost use Rattle.std.specs.Prelude.{◌≡◌, IfOk, map, true};
+ghost use Rattle.galileo_reader.specs.TreeSystems.{system_of};
+ghost use Rattle.galileo_reader.specs.inner.Rates.{HasNumbers};
+ghost use Rattle.galileo_writer.specs.inner.TreeText.{AreRates};
 ghost use Rattle.rate_numerals.specs.Rates.{in_numerals, rates_of};
 
 use crate::numeral::numeral_of;
@@ -9,9 +12,11 @@ use plain_values::{List, Mem};
 use property_reader::Rate;
 use std::alloc::Global;
 
-/// The rate of each event of a tree, its number with a digit before the point and one behind it.
+/// The rate of each event of a tree, its number with a digit before the point and one behind it, as AADL writes it.
 pub fn rates_of(alloc: Global, tree: &NamedTree) -> Mem<List<Rate>>
-    ensures { IfOk result (λ rates. rates ≡ rates_of tree.now) }
+    requires { HasNumbers true tree.now }
+    ensures rates { IfOk result (λ rates. rates ≡ rates_of tree.now) }
+    ensures numbers { IfOk result (AreRates (system_of tree.now)) }
 {
     rates_in(alloc, tree.events.items())
 }

@@ -30,7 +30,7 @@ use Rattle.galileo_reader.specs.Trees.{IsRead}
 use Rattle.galileo_reader.specs.TreeSystems.{system_of, target_of as top_of_tree}
 use Rattle.galileo_reader.proofs.OneAnswer.{one-read, one-wrong, read-apart}
 use Rattle.system_answers.specs.Galileo.{LacksNamedTree, flaw_refusal}
-use Rattle.system_answers.specs.Texts.{begin_of, cuts_text, drawn_form, drawn_text, formed_tree, galileo_paths_text, galileo_text, named_tree, paths_text, rated_tree, rates_of, report_text, slice_of, start_of, target_of, tree_for, tree_paths, tree_sets, tree_text}
+use Rattle.system_answers.specs.Texts.{begin_of, cuts_text, drawn_form, drawn_rates, drawn_text, formed_tree, galileo_paths_text, galileo_text, named_tree, paths_text, rated_tree, report_text, slice_of, start_of, target_of, tree_for, tree_paths, tree_sets, tree_text}
 use Rattle.galileo_reader.proofs.SystemLaws.{tree-system}
 use Rattle.galileo_reader.proofs.TreeTexts.{tree-named}
 use Rattle.system_answers.specs.Trees.{IsFormed, IsShaped, IsTextIn, LacksTree}
@@ -188,12 +188,12 @@ module _ (Same : Status → Status → Type 0) (itself : (status : Status) → S
   galileo_text_decided wide limit max_order text = (named_tree_decided wide text, λ tree read. tree_sets_decided limit max_order tree)
 
   -- and its picture
-  pub drawn_decided : (wide : Bool) (legend : List (List ℕ)) (text : List ℕ) → IsDecided Same (drawn_text wide false legend text)
-  drawn_decided wide legend text = (
+  pub drawn_decided : (wide exchanged : Bool) (legend : List (List ℕ)) (text : List ℕ) → IsDecided Same (drawn_text wide exchanged false legend text)
+  drawn_decided wide exchanged legend text = (
     named_tree_decided wide text,
     λ tree read. (
       slice_decided (top_of_tree tree tree.top) (system_of tree),
-      λ slice served. formed_decided (top_of_tree tree tree.top) (drawn_form false legend) (system_of tree) (rates_of tree) refl (tree-system tree (tree-named read.0 tree read.2)),
+      λ slice served. formed_decided (top_of_tree tree tree.top) (drawn_form exchanged false legend) (system_of tree) (drawn_rates exchanged tree) refl (tree-system tree (tree-named read.0 tree read.2)),
     ),
   )
 

@@ -5,6 +5,7 @@ pub mod FirstSets
 mod Formed
 mod Shapes
 mod TreeTexts
+mod WideRates
 pub mod Reported
 pub mod Decided
 pub mod Derived

@@ -24,7 +24,8 @@ use Rattle.system_answers.specs.Targets.{IsFactNamed, IsStart, LacksStart, Lacks
 use Rattle.system_answers.specs.Probability.{TellsProbability}
 use Rattle.system_answers.specs.Trees.{IsFormed, LacksRate, LacksTree, unrated_in}
 use Rattle.system_answers.specs.declared.form.TreeForm.{TreeForm}
-use Rattle.system_answers.specs.declared.form.TreeFormat.TheVariants.{Dot}
+use Rattle.system_answers.specs.declared.form.TreeFormat.{TreeFormat}
+use Rattle.system_answers.specs.declared.form.TreeFormat.TheVariants.{Dot, Mef}
 use Rattle.system_answers.specs.Voices.{Voice, voices_text}
 
 -- the number of the fact that the target names
@@ -167,21 +168,31 @@ galileo_paths_text wide limit max_order text = do
 abbrev pub rates_of : NamedTree → List Rate
 rates_of tree = map (λ event. event.rate) tree.events
 
--- the form of a picture of a tree, with these lines in its legend
-abbrev pub drawn_form : Bool → List (List ℕ) → TreeForm
-drawn_form merged legend = record { format = Dot; merged = merged; rated = false; legend = legend }
+-- the format in which a tree is written: the Open-PSA Model Exchange Format, or a picture
+abbrev pub drawn_format : Bool → TreeFormat
+drawn_format true = Mef
+drawn_format false = Dot
 
--- the picture of a tree
-abbrev pub drawn_tree : Bool → List (List ℕ) → NamedTree → Phase (List ℕ)
-drawn_tree merged legend tree = do
+-- the rates that are written with it: in the Open-PSA Model Exchange Format with numbers as AADL writes them
+abbrev pub drawn_rates : Bool → NamedTree → List Rate
+drawn_rates true tree = rates_in_numerals tree
+drawn_rates false tree = rates_of tree
+
+-- the form of a tree, with these lines in the legend of a picture
+abbrev pub drawn_form : Bool → Bool → List (List ℕ) → TreeForm
+drawn_form exchanged merged legend = record { format = drawn_format exchanged; merged = merged; rated = false; legend = legend }
+
+-- the picture of a tree, or its text in the Open-PSA Model Exchange Format
+abbrev pub drawn_tree : Bool → Bool → List (List ℕ) → NamedTree → Phase (List ℕ)
+drawn_tree exchanged merged legend tree = do
   _ ← slice_of (top_of_tree tree tree.top) (system_of tree)
-  formed_tree (top_of_tree tree tree.top) (drawn_form merged legend) (system_of tree) (rates_of tree)
+  formed_tree (top_of_tree tree tree.top) (drawn_form exchanged merged legend) (system_of tree) (drawn_rates exchanged tree)
 
--- the text of `galileo` with `--format dot`
-abbrev pub drawn_text : Bool → Bool → List (List ℕ) → List ℕ → Phase (List ℕ)
-drawn_text wide merged legend text = do
+-- the text of `galileo` with `--format`
+abbrev pub drawn_text : Bool → Bool → Bool → List (List ℕ) → List ℕ → Phase (List ℕ)
+drawn_text wide exchanged merged legend text = do
   tree ← named_tree wide text
-  drawn_tree merged legend tree
+  drawn_tree exchanged merged legend tree
 
 -- how probable the top of a tree is, with names in quotes, in so many hours, if they are given: by all minimal cut sets, with the importance
 -- of events, where it is asked for, or by those of at most so many events

@@ -1,8 +1,9 @@
 //! The minimal cut sets and the minimal path sets of a tree in Galileo text.
 
-ghost use Rattle.std.specs.Prelude.{◌≡◌, ◌≤◌, IfOk, length};
+ghost use Rattle.std.specs.Prelude.{◌≡◌, ◌≤◌, IfOk, length, true};
 ghost use Rattle.phases.specs.inner.Meets.{Meets};
 ghost use Rattle.galileo_reader.specs.TreeSystems.{system_of};
+ghost use Rattle.galileo_reader.specs.inner.Rates.{HasNumbers};
 ghost use Rattle.galileo_reader.specs.inner.Trees.{IsNamedTree};
 ghost use Rattle.path_sets.specs.inner.Duals.{IsWithoutFeedback};
 ghost use Rattle.system_answers.specs.Galileo.{flaw_refusal};
@@ -57,6 +58,7 @@ pub(crate) fn tree_in(alloc: Global, text: &[u8], wide: bool) -> Result<NamedTre
     requires { length text.now ≤ 4194304 }
     ensures tree { Meets (named_tree wide text.now) result }
     ensures named { IfOk result IsNamedTree }
+    ensures numbers { IfOk result (HasNumbers true) }
     ensures free { IfOk result (λ tree. IsWithoutFeedback (system_of tree)) }
 {
     no_feedback();

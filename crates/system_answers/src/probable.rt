@@ -1,7 +1,8 @@
 //! The probability of the top of a tree in Galileo text.
 
-ghost use Rattle.std.specs.Prelude.{◌≤◌, length};
+ghost use Rattle.std.specs.Prelude.{◌≤◌, length, true};
 ghost use Rattle.phases.specs.inner.Meets.{IsMemory, MeetsBut};
+ghost use Rattle.galileo_reader.specs.inner.Rates.{HasNumbers};
 ghost use Rattle.galileo_reader.specs.inner.Trees.{IsNamedTree};
 ghost use Rattle.system_answers.specs.Texts.{galileo_probability_text, probable_tree};
 
@@ -34,7 +35,8 @@ fn probability_of(
     tree: &NamedTree,
     form: ProbabilityForm<'_>,
 ) -> Result<Vec<u8>, Status>
-    requires { IsNamedTree tree.now }
+    requires named { IsNamedTree tree.now }
+    requires numbers { HasNumbers true tree.now }
     ensures { MeetsBut IsMemory (λ text. text.items) (probable_tree form.hours.now form.events form.max_order tree.now) result }
 {
     let (system, target) = to_system(alloc, tree)?;

@@ -2,7 +2,7 @@ use Rattle.std.proofs.Common.{List, ℕ, codes, false, true, sym, ◌∙◌, sub
 use Rattle.phases.specs.inner.Meets.{IsMemory, MeetsBut}
 use Rattle.system_answers.specs.Texts.{drawn_text}
 use Rattle.fta_run.specs.Due.{first_text, galileo_in, told_of_tree}
-use Rattle.fta_run.specs.Forms.{drawn_words, is_wide, picture_legend}
+use Rattle.fta_run.specs.Forms.{drawn_words, is_exchanged, is_wide, picture_legend}
 use Rattle.fta_run.specs.Words.{is_set}
 use Rattle.fta_run.specs.inner.Ready.{ready_text}
 use Rattle.fta_run.proofs.Ran.{held_is, lines_where, ready_held}
@@ -14,8 +14,9 @@ returns-then-is_drawn-clause-text c =
     let names = c.args.names.now in
     let texts = c.args.texts in
     subst (λ drawn. MeetsBut IsMemory ready_text (galileo_in drawn options names texts) c.picture.result) (sym (sym c.is_drawn.ensures ∙ c.if-is_drawn.true))
-    (subst (λ merged. MeetsBut IsMemory ready_text (drawn_text (is_wide options.form) merged (picture_legend (drawn_words merged) names texts) (first_text texts)) c.picture.result) c.is_merging.ensures
-    (subst (λ wide. MeetsBut IsMemory ready_text (drawn_text wide c.is_merging.result (picture_legend (drawn_words c.is_merging.result) names texts) (first_text texts)) c.picture.result) c.is_wide-then-is_drawn-wide.ensures c.picture.ensures))
+    (subst (λ merged. MeetsBut IsMemory ready_text (drawn_text (is_wide options.form) (is_exchanged options.form) merged (picture_legend (drawn_words merged) names texts) (first_text texts)) c.picture.result) c.is_merging-then-is_drawn-merged.ensures
+    (subst (λ exchanged. MeetsBut IsMemory ready_text (drawn_text (is_wide options.form) exchanged c.is_merging-then-is_drawn-merged.result (picture_legend (drawn_words c.is_merging-then-is_drawn-merged.result) names texts) (first_text texts)) c.picture.result) c.is_exchanged-then-is_drawn-exchanged.ensures
+    (subst (λ wide. MeetsBut IsMemory ready_text (drawn_text wide c.is_exchanged-then-is_drawn-exchanged.result c.is_merging-then-is_drawn-merged.result (picture_legend (drawn_words c.is_merging-then-is_drawn-merged.result) names texts) (first_text texts)) c.picture.result) c.is_wide-then-is_drawn-wide.ensures c.picture.ensures)))
 
 pub returns-then-is_drawn-clause-by_lines : goal.returns-then-is_drawn-clause-by_lines
 returns-then-is_drawn-clause-by_lines c = lines_where c.picture.result _ (sym c.is_drawn.ensures ∙ c.if-is_drawn.true)

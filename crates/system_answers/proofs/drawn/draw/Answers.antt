@@ -9,4 +9,4 @@ returns-in_err-tree c = exits _ _ _ _ _ c.from_residual.ensures.1 (ends c.in_err
 
 pub returns : goal.returns
 returns c =
-    meets_later IsMemory tree_bytes (named_tree c.args.wide c.args.text.now) (drawn_tree c.args.merged c.args.legend) c.in_ok-tree.tree c.picture_of.result (λ s memory. memory) c.in_ok-tree.ensures.tree c.picture_of.ensures
+    meets_later IsMemory tree_bytes (named_tree c.args.wide c.args.text.now) (drawn_tree c.args.exchanged c.args.merged c.args.legend) c.in_ok-tree.tree c.picture_of.result (λ s memory. memory) c.in_ok-tree.ensures.tree c.picture_of.ensures

@@ -20,5 +20,5 @@ returns c =
     let here = subst (λ (number : ℕ). TellsProbability true c.in_ok-system.system c.in_ok-rates.rates number part.events form.hours.now form.events form.max_order text) c.in_ok-part.ensures.passed.is_slice.target_is c.in_ok-text.ensures in
     let at = subst (λ (number : ℕ). TellsProbability true c.in_ok-system.system c.in_ok-rates.rates number part.events form.hours.now form.events form.max_order text) c.in_ok-system.ensures.target here in
     let in_system = subst (λ (system : System). TellsProbability true system c.in_ok-rates.rates top part.events form.hours.now form.events form.max_order text) c.in_ok-system.ensures.system at in
-    let its = subst (λ (rates : List Rate). TellsProbability true (system_of tree) rates top part.events form.hours.now form.events form.max_order text) c.in_ok-rates.ensures in_system in
+    let its = subst (λ (rates : List Rate). TellsProbability true (system_of tree) rates top part.events form.hours.now form.events form.max_order text) c.in_ok-rates.ensures.rates in_system in
     sliced passes (record { passed = its })
