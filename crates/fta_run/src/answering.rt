@@ -22,7 +22,9 @@ ghost use Rattle.system_answers.specs.Texts.{drawn_text, galileo_probability_tex
 use crate::compared::compared;
 use crate::confirmed::confirmation;
 use crate::fmea::table_of;
-use crate::forms::{drawn_legend, is_drawn, is_exchanged, is_merging, is_wide, profile_of, tree_form};
+use crate::forms::{
+    drawn_legend, is_drawn, is_exchanged, is_merging, is_wide, profile_of, tree_form,
+};
 use crate::input::Texts;
 use crate::made::make;
 use crate::manifest::manifest_text;
@@ -324,7 +326,7 @@ fn probability_of_tree(
     form: ProbabilityForm<'_>,
     texts: Texts,
 ) -> Result<Held, Status>
-    ensures { MeetsBut IsMemory held_text (galileo_probability_text wide form.hours.now form.events form.max_order (first_text texts)) result }
+    ensures { MeetsBut IsMemory held_text (galileo_probability_text wide form.entry.hours.now form.entry.events form.entry.max_order (first_text texts)) result }
 {
     let text = tree_probability(alloc, texts.first(), wide, form)?;
     Ok(Held::Text(text))

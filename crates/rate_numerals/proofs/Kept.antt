@@ -282,7 +282,7 @@ pointed-number text is =
     let spelled : text ≡ 46 ∷ (digits ++ more) = fraction-is text is.front is.back is.whole is.first ∙ ap (λ l. 46 ∷ l) rest.whole in
     let begins = run-begins digits rest.first.front rest.first.back more rest.first.whole rest.first.first in
     let its : numeral text ≡ (48 ∷ []) ++ (46 ∷ (digits ++ more)) =
-        ap numeral spelled ∙ numeral-of [] (46 ∷ (digits ++ more)) tt refl ∙ ap (λ l. 48 ∷ 46 ∷ l) (digit-kept (digits ++ more) begins) in
+    ap numeral spelled ∙ numeral-of [] (46 ∷ (digits ++ more)) tt refl ∙ ap (λ l. 48 ∷ 46 ∷ l) (digit-kept (digits ++ more) begins) in
     subst IsNumber (sym its) (number-of (48 ∷ []) digits more zero-digits (digits-of digits rest.first) (exponents-of more rest.second))
 
 -- no digit begins an exponent
@@ -311,9 +311,9 @@ open-number text is =
     let more = rest.back in
     let spelled : text ≡ digits ++ (46 ∷ more) = is.whole ∙ ap (λ l. digits ++ l) (fraction-is is.back rest.front more rest.whole rest.first) in
     let its : numeral text ≡ digits ++ (46 ∷ ((48 ∷ []) ++ more)) =
-        ap numeral spelled ∙ numeral-of digits (46 ∷ more) (digits-no digits is.first) refl
-        ∙ ap (λ l. l ++ (46 ∷ with_digit more)) (front-kept digits (digits-some digits is.first))
-        ∙ ap (λ l. digits ++ (46 ∷ l)) (digit-added more (no-digit-begins more rest.second)) in
+    ap numeral spelled ∙ numeral-of digits (46 ∷ more) (digits-no digits is.first) refl
+    ∙ ap (λ l. l ++ (46 ∷ with_digit more)) (front-kept digits (digits-some digits is.first))
+    ∙ ap (λ l. digits ++ (46 ∷ l)) (digit-added more (no-digit-begins more rest.second)) in
     subst IsNumber (sym its) (number-of digits (48 ∷ []) more is.first zero-digits (exponents-of more rest.second))
 
 -- a number as other tools write it becomes one as AADL does

@@ -23,7 +23,7 @@ pub fn tree_probability(
     form: ProbabilityForm<'_>,
 ) -> Result<Vec<u8>, Status>
     requires { length text.now ≤ 4194304 }
-    ensures { MeetsBut IsMemory (λ text. text.items) (galileo_probability_text wide form.hours.now form.events form.max_order text.now) result }
+    ensures { MeetsBut IsMemory (λ text. text.items) (galileo_probability_text wide form.entry.hours.now form.entry.events form.entry.max_order text.now) result }
 {
     let tree = tree_in(alloc, text, wide)?;
     probability_of(alloc, &tree, form)
@@ -37,7 +37,7 @@ fn probability_of(
 ) -> Result<Vec<u8>, Status>
     requires named { IsNamedTree tree.now }
     requires numbers { HasNumbers true tree.now }
-    ensures { MeetsBut IsMemory (λ text. text.items) (probable_tree form.hours.now form.events form.max_order tree.now) result }
+    ensures { MeetsBut IsMemory (λ text. text.items) (probable_tree form.entry.hours.now form.entry.events form.entry.max_order tree.now) result }
 {
     let (system, target) = to_system(alloc, tree)?;
     let part = find_slice(alloc, &system, target)?;
