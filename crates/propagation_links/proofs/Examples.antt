@@ -11,14 +11,14 @@ use Rattle.plain_values.specs.Refusal.{refusal}
 use Rattle.bindings.specs.Bindings.{abstract_word, binding, binding_end, binding_name, binding_word, applied_targets, binding_targets, other_word, dotted_name, path, reference, references, targets}
 use Rattle.component_extension.specs.Chain.{chain_from}
 use Rattle.grammar_rules.specs.Spans.{closes, is_even, opens}
-use Rattle.grammar_rules.specs.Tokens.{identifier, is_identifier, is_kind, is_sign, is_word, sign, word}
+use Rattle.grammar_rules.specs.Tokens.{identifier, is_identifier, is_kind, is_sign, is_word, place, sign, spot, word}
 use Rattle.profiles.specs.declared.profile.Profile.TheVariants.{First, Second}
 use Rattle.propagation_points.specs.declared.side.Side.TheVariants.{Absent, Declared}
 use Rattle.propagation_points.specs.Points.{Point}
 use Rattle.instantiator.specs.Components.{preorder}
 use Rattle.instantiator.specs.Effectives.{effective_of}
 use Rattle.instantiator.specs.Whole.{instance_of}
-use Rattle.instantiator.proofs.Sample.{connection_of, end_at, id, spot, two_devices}
+use Rattle.instantiator.proofs.Sample.{connection_of, end_at, id, spot as sample_spot, two_devices}
 use Rattle.propagation_links.specs.declared.link.Link.{Link}
 use Rattle.propagation_links.specs.Links.{links_of}
 use Rattle.propagation_links.specs.Refused.{links_refusal}
@@ -136,7 +136,7 @@ unfolding preorder effective_of chain_from
 unknown_path = refl
 
 -- P9 at a block of connection errors
-connection_error : links_refusal First (instance_with [] (record (clause_of []) { connection_errors = spot 50 ∷ [] })) points ≡ Some (refusal ConnectionError (At 0 50))
+connection_error : links_refusal First (instance_with [] (record (clause_of []) { connection_errors = sample_spot 50 ∷ [] })) points ≡ Some (refusal ConnectionError (At 0 50))
 unfolding preorder effective_of chain_from
 connection_error = refl
 
@@ -150,15 +150,15 @@ w_d = codes "w" ∷ codes "d" ∷ []
 
 -- a component and its processor, both ways
 inner_alone : links_of First (bound_instance [] (binding_section d d ∷ [])) bound_points ≡ link 3 0 true 3 1 false ∷ link 3 1 true 3 0 false ∷ []
-unfolding preorder effective_of chain_from binding binding_name binding_word other_word abstract_word binding_end references reference path dotted_name targets binding_targets applied_targets word sign identifier is_word is_sign is_identifier is_even opens closes is_kind
+unfolding preorder effective_of chain_from binding binding_name binding_word other_word abstract_word binding_end references reference path dotted_name targets binding_targets applied_targets word sign identifier is_word is_sign is_identifier is_even opens closes is_kind spot place
 inner_alone = refl
 
 -- the outermost component that binds it counts
 outer_counts : links_of First (bound_instance (binding_section d w_d ∷ []) (binding_section d d ∷ [])) bound_points ≡ link 1 0 true 3 1 false ∷ link 3 1 true 1 0 false ∷ []
-unfolding preorder effective_of chain_from binding binding_name binding_word other_word abstract_word binding_end references reference path dotted_name targets binding_targets applied_targets word sign identifier is_word is_sign is_identifier is_even opens closes is_kind
+unfolding preorder effective_of chain_from binding binding_name binding_word other_word abstract_word binding_end references reference path dotted_name targets binding_targets applied_targets word sign identifier is_word is_sign is_identifier is_even opens closes is_kind spot place
 outer_counts = refl
 
 -- and there the last, also where it leads nowhere
 last_counts : links_of First (bound_instance (binding_section d w_d ∷ binding_section (codes "z" ∷ []) w_d ∷ []) (binding_section d d ∷ [])) bound_points ≡ []
-unfolding preorder effective_of chain_from binding binding_name binding_word other_word abstract_word binding_end references reference path dotted_name targets binding_targets applied_targets word sign identifier is_word is_sign is_identifier is_even opens closes is_kind
+unfolding preorder effective_of chain_from binding binding_name binding_word other_word abstract_word binding_end references reference path dotted_name targets binding_targets applied_targets word sign identifier is_word is_sign is_identifier is_even opens closes is_kind spot place
 last_counts = refl
