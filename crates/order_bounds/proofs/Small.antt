@@ -11,7 +11,7 @@ use Rattle.fault_system.proofs.ListingLaws.{covers, listing-exact}
 use Rattle.fault_system.proofs.NumberSets.{RisesWithin-filter, contained-in_set, set_of-filter}
 use Rattle.backward_slice.specs.Slices.{IsSlice}
 use Rattle.backward_slice.specs.declared.parts.Slice.{Slice}
-use Rattle.zdd_store.specs.inner.Family.{Family, IsAntichain, covers as family_covers, has, is_within}
+use Rattle.zdd_store.specs.inner.Family.{Family, IsAntichain, covers as family_covers, is_within}
 use Rattle.zdd_families.proofs.Covers.{covers_member, member_covers}
 use Rattle.zdd_families.proofs.Subsets.{within_from, within_has}
 use Rattle.cutset_engine.specs.inner.Families.{HasMinimalCutSets}

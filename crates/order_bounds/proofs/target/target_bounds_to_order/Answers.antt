@@ -25,5 +25,5 @@ returns c =
       are_known = known_read whole system rates hours c.numeral_of.result c.in_ok-list.list.items c.numeral_of.ensures c.in_ok-list.ensures;
       told = subst (λ known. AreToldToOrder whole system part.target part.events (bounds_known known) c.args.most bounds) c.as_slice-known.ensures.value c.in_ok-bounds.ensures;
       found_is = c.in_ok-found.ensures ∙ ap all_found c.as_slice-known.ensures.value;
-      alone = c.new.ensures;
+      alone = c.new.ensures.items;
     }
