@@ -1,5 +1,5 @@
 -- A number of a rate, with a digit before its point and one behind it, is one as AADL writes it.
-use Rattle.std.proofs.Common.{ℕ, suc, ◌+◌, ◌≡◌, ◌==◌, ◌&&◌, ◌||◌, not, cond, Bool, true, false, List, [], ◌∷◌, ◌++◌, drop, take, nat_le, inl, inr, refl, sym, ap, subst, ◌∙◌, append_assoc, append-nil, arith}
+use Rattle.std.proofs.Common.{ℕ, suc, ◌+◌, ◌≡◌, ◌<◌, ◌==◌, ◌&&◌, ◌||◌, not, cond, Bool, true, false, List, [], ◌∷◌, ◌++◌, drop, take, nat_le, inl, inr, refl, sym, ap, subst, ◌∙◌, append_assoc, append-nil, arith}
 use Rattle.std.specs.List.{AllByRecursion, concat}
 use Rattle.std.proofs.lemmas.Bool.{false≢true}
 use Rattle.std.proofs.lemmas.Bool.Decides.{nat_tests}
@@ -22,27 +22,27 @@ one-more true n is = absurd (false≢true (sym is))
 one-more false n is = omega arith
 
 cut-at : (front back : List ℕ) → NoPoint front → point back ≡ 0 → IsCut front back (point (front ++ back)) (front ++ back)
-cut-at [] back no starts = subst (λ n. IsCut [] back n back) (sym starts) (refl, refl)
-cut-at (b ∷ front) back no starts =
-    let rest = cut-at front back no.1 starts in
-    subst (λ n. IsCut (b ∷ front) back n (b ∷ (front ++ back))) (sym (one-more (b == 46) (point (front ++ back)) no.0)) (ap (λ l. b ∷ l) rest.0, rest.1)
+cut-at [] back free starts = subst (λ n. IsCut [] back n back) (sym starts) (refl, refl)
+cut-at (b ∷ front) back free starts =
+    let rest = cut-at front back free.1 starts in
+    subst (λ n. IsCut (b ∷ front) back n (b ∷ (front ++ back))) (sym (one-more (b == 46) (point (front ++ back)) free.0)) (ap (λ l. b ∷ l) rest.0, rest.1)
 
 numeral-of : (front back : List ℕ) → NoPoint front → point back ≡ 0 → numeral (front ++ back) ≡ front_or_zero front ++ behind_point back
-numeral-of front back no starts =
-    let two = cut-at front back no starts in
+numeral-of front back free starts =
+    let two = cut-at front back free starts in
     let n = point (front ++ back) in
     ap (λ l. front_or_zero l ++ behind_point (drop n (front ++ back))) two.0 ∙ ap (λ l. front_or_zero front ++ behind_point l) two.1
 
 -- ---- texts without a point
 
 no-both : (a b : List ℕ) → NoPoint a → NoPoint b → NoPoint (a ++ b)
-no-both [] b no more = more
-no-both (x ∷ a) b no more = (no.0, no-both a b no.1 more)
+no-both [] b free more = more
+no-both (x ∷ a) b free more = (free.0, no-both a b free.1 more)
 
-module _ (class : ℕ → Bool) (no : (b : ℕ) → class b ≡ true → (b == 46) ≡ false) where
+module _ (class : ℕ → Bool) (free : (b : ℕ) → class b ≡ true → (b == 46) ≡ false) where
   one-no : (bytes : List ℕ) → One class bytes → NoPoint bytes
   one-no [] one = absurd one
-  one-no (b ∷ []) one = (no b one, tt)
+  one-no (b ∷ []) one = (free b one, tt)
   one-no (b ∷ c ∷ bytes) one = absurd one
 
   parts-no : (parts : List (List ℕ)) → AllByRecursion (One class) parts → NoPoint (concat parts)
@@ -163,8 +163,8 @@ digit-added bytes is = by (begins_with_digit bytes) is
 
 -- a number without a point stays as it is
 plain-kept : (text : List ℕ) → NoPoint text → (text ≡ [] → ⊥) → numeral text ≡ text
-plain-kept text no some =
-    ap numeral (sym (append-nil text)) ∙ numeral-of text [] no refl ∙ append-nil (front_or_zero text) ∙ front-kept text some
+plain-kept text free some =
+    ap numeral (sym (append-nil text)) ∙ numeral-of text [] free refl ∙ append-nil (front_or_zero text) ∙ front-kept text some
 
 -- a point is one byte
 point-is : (dot : List ℕ) → Byte 46 dot → dot ≡ 46 ∷ []
@@ -174,8 +174,8 @@ point-is (b ∷ c ∷ bytes) one = absurd one
 
 -- and so does one with digits before its point and behind it
 pointed-kept : (front digits more : List ℕ) → NoPoint front → (front ≡ [] → ⊥) → begins_with_digit (digits ++ more) ≡ true → numeral (front ++ (46 ∷ (digits ++ more))) ≡ front ++ (46 ∷ (digits ++ more))
-pointed-kept front digits more no some is =
-    numeral-of front (46 ∷ (digits ++ more)) no refl
+pointed-kept front digits more free some is =
+    numeral-of front (46 ∷ (digits ++ more)) free refl
     ∙ ap (λ l. l ++ (46 ∷ with_digit (digits ++ more))) (front-kept front some)
     ∙ ap (λ l. front ++ (46 ∷ l)) (digit-kept (digits ++ more) is)
 
@@ -194,7 +194,7 @@ module _ (text digits rest : List ℕ) (whole : text ≡ digits ++ rest) (are : 
 
   -- where no point follows
   without-point : NoPoint rest → numeral text ≡ text
-  without-point no = plain-kept text (subst NoPoint (sym whole) (no-both digits rest no-front no)) (joined-some text digits rest whole some-front)
+  without-point free = plain-kept text (subst NoPoint (sym whole) (no-both digits rest no-front free)) (joined-some text digits rest whole some-front)
 
   -- where a fraction does
   with-point : (fraction more : List ℕ) → rest ≡ fraction ++ more → IsFraction fraction → numeral text ≡ text
