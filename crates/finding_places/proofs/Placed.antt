@@ -1,8 +1,7 @@
 -- Lines with their places, with one more.
 use Rattle.std.proofs.Common.{ℕ, zero, suc, ◌+◌, ◌<◌, ◌≡◌, List, [], ◌∷◌, ◌++◌, length, map, get_or, take, refl, sym, ap, ◌∙◌, arith}
 use Rattle.std.specs.Prelude.{slice_index_or}
-use Rattle.std.proofs.lemmas.Grind.{map-append}
-use Rattle.std.proofs.lemmas.List.{take_more}
+use Rattle.std.proofs.lemmas.List.{map-append, take_more}
 use Rattle.fact_formulas.specs.Numbered.{Numbered}
 use Rattle.model_review.specs.Lines.{finding_text}
 use Rattle.model_review.specs.Seen.{Seen}

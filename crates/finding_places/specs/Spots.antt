@@ -1,5 +1,5 @@
 -- Where that stands which a line of a review names.
-use Rattle.std.specs.Prelude.{ℕ, cond, Option, None, Some, option_and_then, option_map, slice_get}
+use Rattle.std.specs.Prelude.{ℕ, cond, Option, Some, option_and_then, option_map, slice_get}
 use Rattle.plain_values.specs.declared.spot.Spot.{Spot}
 use Rattle.package_index.specs.Lookup.{decl_of}
 use Rattle.component_extension.specs.declared.effective.Effective.{Effective}

@@ -23,7 +23,7 @@ all-lines assembly reviewed (Err error) reviews are = tt
 -- what they say of what is lost
 none-lost : {E : Type 0} (assembly : Assembly) (reviewed : Reviewed) (answer : Result (List ReviewLine) E) → IsReview assembly reviewed → (HasNoHiddenLine reviewed.lines → HoldTheSame (system_of assembly) (joined_by (numbered_of assembly)))
     → IfOk answer (λ lines. lines ≡ map (review_line (seen_of assembly)) reviewed.findings) → IfOk answer (λ lines. HasNoHiddenText lines → HoldTheSame (system_of assembly) (joined_by (numbered_of assembly)))
-none-lost assembly reviewed (Ok lines) reviews lost are none = lost (subst HasNoHiddenLine (texts-same (seen_of assembly) reviewed.findings reviewed.lines lines reviews.lines are) none)
+none-lost assembly reviewed (Ok lines) reviews lost are = λ none. lost (subst HasNoHiddenLine (texts-same (seen_of assembly) reviewed.findings reviewed.lines lines reviews.lines are) none)
 none-lost assembly reviewed (Err error) reviews lost are = tt
 
 pub returns-clause-exact : goal.returns-clause-exact
