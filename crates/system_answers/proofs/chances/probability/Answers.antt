@@ -1,5 +1,5 @@
 use Rattle.phases.proofs.Steps.{◌passes◌}
-use Rattle.std.proofs.Common.{subst}
+use Rattle.std.proofs.Common.{false, subst}
 use Rattle.system_answers.specs.Probability.{TellsProbability}
 use Rattle.system_answers.proofs.chances.probability.Goals as goal
 

@@ -5,7 +5,7 @@ use Rattle.phases.proofs.Steps.{meets_later}
 use Rattle.fault_system.specs.Systems.{System}
 use Rattle.property_reader.specs.declared.rate.Rate.{Rate}
 use Rattle.galileo_reader.specs.TreeSystems.{system_of, target_of as top_of_tree}
-use Rattle.system_answers.specs.Texts.{drawn_form, drawn_rates, formed_tree, slice_of}
+use Rattle.system_answers.specs.Texts.{drawn_form, drawn_format, drawn_rates, formed_tree, slice_of}
 use Rattle.system_answers.specs.declared.form.TreeForm.{TreeForm}
 use Rattle.system_answers.specs.declared.form.TreeFormat.{TreeFormat}
 use Rattle.system_answers.specs.inner.Forms.{IsWritable, tree_bytes}
@@ -15,7 +15,7 @@ pub formed-requires-clause-writable : goal.formed-requires-clause-writable
 formed-requires-clause-writable c =
     let rates = c.in_ok-rates.rates in
     subst (λ (format : TreeFormat). IsWritable format c.in_ok-system.system rates) (sym c.drawn_format-format.ensures)
-    (subst (λ (system : System). IsWritable _ system rates) (sym c.in_ok-system.ensures.system) c.in_ok-rates.ensures.writable)
+    (subst (λ (system : System). IsWritable (drawn_format c.args.exchanged) system rates) (sym c.in_ok-system.ensures.system) c.in_ok-rates.ensures.writable)
 
 pub returns : goal.returns
 returns c =
