@@ -14,9 +14,9 @@ returns-then-is_drawn-clause-text c =
     let names = c.args.names.now in
     let texts = c.args.texts in
     subst (λ drawn. MeetsBut IsMemory ready_text (galileo_in drawn options names texts) c.picture.result) (sym (sym c.is_drawn.ensures ∙ c.if-is_drawn.true))
-    (subst (λ merged. MeetsBut IsMemory ready_text (drawn_text (is_wide options.form) (is_exchanged options.form) merged (picture_legend (drawn_words merged) names texts) (first_text texts)) c.picture.result) c.is_merging-then-is_drawn-merged.ensures
-    (subst (λ exchanged. MeetsBut IsMemory ready_text (drawn_text (is_wide options.form) exchanged c.is_merging-then-is_drawn-merged.result (picture_legend (drawn_words c.is_merging-then-is_drawn-merged.result) names texts) (first_text texts)) c.picture.result) c.is_exchanged-then-is_drawn-exchanged.ensures
-    (subst (λ wide. MeetsBut IsMemory ready_text (drawn_text wide c.is_exchanged-then-is_drawn-exchanged.result c.is_merging-then-is_drawn-merged.result (picture_legend (drawn_words c.is_merging-then-is_drawn-merged.result) names texts) (first_text texts)) c.picture.result) c.is_wide-then-is_drawn-wide.ensures c.picture.ensures)))
+    (subst (λ merged. MeetsBut IsMemory ready_text (drawn_text (is_wide options.form) (is_exchanged options.form) merged (picture_legend (drawn_words merged) names texts) (first_text texts)) c.picture.result) c.is_merging-merged.ensures
+    (subst (λ exchanged. MeetsBut IsMemory ready_text (drawn_text (is_wide options.form) exchanged c.is_merging-merged.result (picture_legend (drawn_words c.is_merging-merged.result) names texts) (first_text texts)) c.picture.result) c.is_exchanged-exchanged.ensures
+    (subst (λ wide. MeetsBut IsMemory ready_text (drawn_text wide c.is_exchanged-exchanged.result c.is_merging-merged.result (picture_legend (drawn_words c.is_merging-merged.result) names texts) (first_text texts)) c.picture.result) c.is_wide-wide.ensures c.picture.ensures)))
 
 pub returns-then-is_drawn-clause-by_lines : goal.returns-then-is_drawn-clause-by_lines
 returns-then-is_drawn-clause-by_lines c = lines_where c.picture.result _ (sym c.is_drawn.ensures ∙ c.if-is_drawn.true)
