@@ -35,7 +35,8 @@ use system_answers::names_of;
 /// to make each effect of the root hold, `events ROOT FILE..` each event with its kind, its rate, and where it is declared,
 /// `review ROOT FILE..` what it leaves without effect, and where its errors stop, `report ROOT TARGET FILE..` what the
 /// handed-in reports say of all minimal cut sets of a fact, `make N` what is said of a model that is made of a number, and
-/// `galileo FILE` the minimal cut sets, or path sets, of a tree in Galileo text. `paths ROOT TARGET FILE..` writes a page of the minimal
+/// `galileo FILE` the minimal cut sets, or path sets, of a tree in Galileo text, the tree as Open-PSA text or a picture, or how probable its
+/// top is. `paths ROOT TARGET FILE..` writes a page of the minimal
 /// path sets of a fact, `why ROOT TARGET FILE..` a derivation of it under a set of events, and `confirm ROOT TARGET DERIVATION FILE..`
 /// that a text is one. `require ROOT REQUIREMENTS FILE..` tells which requirements of a file are met. `place FILE BYTE` writes where a byte of a file stands, and `help` and `version` write fixed texts. Under every
 /// status but Done and Unmet one line is written to `err`; a fault of `err` changes nothing.
