@@ -14,6 +14,7 @@ class Review:
     def __init__(self, facts):
         self.facts, self.formulas = facts, facts.formulas
         self.may = rounds(facts, set(facts.events))  # the facts that may come about
+        self.always = rounds(facts, set())  # those that hold without any event
         self.used = {leaf for formula in self.formulas.values() for leaf in leaves(formula)}
         self.effects = effects(facts)
 
@@ -22,7 +23,7 @@ class Review:
         groups = (self.hidden_sources, self.hidden_paths, self.hidden_links,
                   self.hidden_transitions, self.not_declared, self.stops_here,
                   self.sink_leaves, self.goes_nowhere, self.no_links, self.two_ways, self.open_sides,
-                  self.dry_sides, self.no_sources, self.never, self.unused_states, self.unlike,
+                  self.dry_sides, self.no_sources, self.never, self.holds_always, self.unused_states, self.unlike,
                   self.quiet, self.in_modes, self.unread_bindings, self.stray_bindings,
                   self.unused_rates, self.core_rates, self.type_root, self.loops,
                   self.unused_events, self.no_singles, self.no_effect, self.unreached_events)
@@ -259,6 +260,16 @@ class Review:
             if fact[1] == "state" and fact not in self.may:
                 yield f"never {self.facts.print(fact)}", self.fact_place(fact)
 
+    def holds_always(self):
+        """`always SIDE{TYPES}`, and behind all of these `always FACT` of states that are not initial."""
+        for side in self.sides("out"):
+            types = [number for number in self.types_of(side) if side + (number,) in self.always]
+            if types:
+                yield f"always {self.with_types(side, types)}", self.side_place(side)
+        for fact in self.formulas:
+            if fact[1] == "state" and is_effect(self.facts, fact) and fact in self.always:
+                yield f"always {self.facts.print(fact)}", self.fact_place(fact)
+
     def unused_states(self):
         """`unused-state FACT`."""
         for fact in self.formulas:
@@ -385,13 +396,15 @@ class Review:
             yield "no-effect root", self.facts.parts[0].chain[0].place
 
     def unreached_events(self):
-        """`unreached-event EVENT`."""
+        """`unreached-event EVENT ..`: all of one component in one line."""
         facts = set(self.effects).union(*map(self.reached, self.effects))
         reached = {leaf for fact in facts for leaf in leaves(self.formulas[fact])}
-        for event in self.facts.events:
-            leaf = ("event", event)
-            if self.effects and leaf in self.used and leaf not in reached:
-                yield f"unreached-event {self.facts.print(event)}", self.event_place(event)
+        for part in self.facts.parts if self.effects else []:
+            events = [event for event in self.facts.events if event[0] == part.number
+                      and ("event", event) in self.used and ("event", event) not in reached]
+            if events:
+                names = " ".join(map(self.facts.print, events))
+                yield f"unreached-event {names}", self.event_place(events[0])
 
     # Lines on what is used otherwise than what stands beside it
 

@@ -1,5 +1,5 @@
 -- Where that stands which a line of a review names.
-use Rattle.std.specs.Prelude.{ℕ, cond, Option, Some, option_and_then, option_map, slice_get}
+use Rattle.std.specs.Prelude.{ℕ, cond, List, Option, Some, option_and_then, option_map, slice_get}
 use Rattle.plain_values.specs.declared.spot.Spot.{Spot}
 use Rattle.package_index.specs.Lookup.{decl_of}
 use Rattle.component_extension.specs.declared.effective.Effective.{Effective}
@@ -11,7 +11,7 @@ use Rattle.event_origins.specs.Origins.{origin_of}
 use Rattle.event_origins.specs.Places.{fact_spot, side_spot, state_spot}
 use Rattle.model_review.specs.Lines.{flow_at}
 use Rattle.model_review.specs.declared.finding.Finding.{Finding}
-use Rattle.model_review.specs.declared.finding.Finding.TheVariants.{CoreRate, Dry, GoesNowhere, HiddenLink, HiddenPath, HiddenSource, HiddenTransitions, InLoop, InModes, Never, NeverState, NoEffect, NoLink, NoSingle, NoSource, NotDeclared, Open, Quiet, SinkLeaves, StopsHere, StrayPath, StrayRate, TwoWays, TypeRoot, Unlike, UnreachedEvent, UnreadBinding, UnusedEvent, UnusedState}
+use Rattle.model_review.specs.declared.finding.Finding.TheVariants.{Always, AlwaysState, CoreRate, Dry, GoesNowhere, HiddenLink, HiddenPath, HiddenSource, HiddenTransitions, InLoop, InModes, Never, NeverState, NoEffect, NoLink, NoSingle, NoSource, NotDeclared, Open, Quiet, SinkLeaves, StopsHere, StrayPath, StrayRate, TwoWays, TypeRoot, Unlike, UnreachedEvents, UnreadBinding, UnusedEvent, UnusedState}
 
 -- ---- parts of a component
 
@@ -50,10 +50,15 @@ numbered_fact_spot numbered fact = option_and_then (fact_spot numbered.assembly)
 abbrev pub numbered_event_spot : Numbered → ℕ → Option Spot
 numbered_event_spot numbered event = option_and_then (λ key. (origin_of numbered.assembly key).spot) (slice_get numbered.events event)
 
+-- the declaration of the first of some events
+abbrev pub first_event_spot : Numbered → List ℕ → Option Spot
+first_event_spot numbered events = option_and_then (numbered_event_spot numbered) (slice_get events 0)
+
 -- ---- findings
 
 -- Where that stands which a finding is about: a flow, the second side of a link, a side, the first clause of composite states, a connection or
--- a user path, a state, a member or a property, an implementation, the first fact of a loop, an event, or the classifier of the root.
+-- a user path, a state, a member or a property, an implementation, the first fact of a loop, an event or the first of some, or the classifier of the
+-- root.
 abbrev pub finding_spot : Numbered → Finding → Option Spot
 finding_spot numbered (HiddenSource owner number at) = flow_spot numbered.assembly owner number
 finding_spot numbered (HiddenPath owner number at) = flow_spot numbered.assembly owner number
@@ -70,6 +75,8 @@ finding_spot numbered (Dry at) = side_spot numbered.assembly at.side
 finding_spot numbered (NoSource side) = side_spot numbered.assembly side
 finding_spot numbered (Never at) = side_spot numbered.assembly at.side
 finding_spot numbered (NeverState state) = state_spot numbered.assembly 0 state
+finding_spot numbered (Always at) = side_spot numbered.assembly at.side
+finding_spot numbered (AlwaysState owner state) = state_spot numbered.assembly owner state
 finding_spot numbered (UnusedState owner state) = state_spot numbered.assembly owner state
 finding_spot numbered (Unlike one) = numbered_fact_spot numbered one.state
 finding_spot numbered (Quiet one) = numbered_fact_spot numbered one.state
@@ -83,4 +90,4 @@ finding_spot numbered (InLoop loop) = numbered_fact_spot numbered loop.first
 finding_spot numbered (UnusedEvent event) = numbered_event_spot numbered event
 finding_spot numbered (NoSingle event) = numbered_event_spot numbered event
 finding_spot numbered NoEffect = classifier_spot numbered.assembly.instance 0
-finding_spot numbered (UnreachedEvent event) = numbered_event_spot numbered event
+finding_spot numbered (UnreachedEvents events) = first_event_spot numbered events

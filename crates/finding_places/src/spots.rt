@@ -1,7 +1,7 @@
 //! Where that stands which a finding is about.
 
 ghost use Rattle.std.specs.Prelude.{◌≡◌, IfOk, cond, option_map, slice_get};
-ghost use Rattle.finding_places.specs.Spots.{classifier_spot, clause_spot, connection_spot, finding_spot, flow_spot, numbered_event_spot, numbered_fact_spot, unlinked_spot, user_path_spot};
+ghost use Rattle.finding_places.specs.Spots.{classifier_spot, clause_spot, connection_spot, finding_spot, first_event_spot, flow_spot, numbered_event_spot, numbered_fact_spot, unlinked_spot, user_path_spot};
 
 use component_extension::Effective;
 use event_origins::ModelPlaces;
@@ -39,6 +39,8 @@ pub(crate) fn finding_spot(
         Finding::NoSource(side) => Ok(places.side(*side)),
         Finding::Never(at) => Ok(places.side(at.side)),
         Finding::NeverState(state) => Ok(places.state(0, *state)),
+        Finding::Always(at) => Ok(places.side(at.side)),
+        Finding::AlwaysState(owner, state) => Ok(places.state(*owner, *state)),
         Finding::UnusedState(owner, state) => Ok(places.state(*owner, *state)),
         Finding::Unlike(one) => Ok(fact_spot(places, model, one.state)),
         Finding::Quiet(one) => Ok(fact_spot(places, model, one.state)),
@@ -52,7 +54,9 @@ pub(crate) fn finding_spot(
         Finding::UnusedEvent(event) => event_spot(alloc, places, model, *event),
         Finding::NoSingle(event) => event_spot(alloc, places, model, *event),
         Finding::NoEffect => Ok(classifier_spot(assembly.instance(), 0)),
-        Finding::UnreachedEvent(event) => event_spot(alloc, places, model, *event),
+        Finding::UnreachedEvents(events) => {
+            first_event_spot(alloc, places, model, events.items())
+        }
     }
 }
 
@@ -75,6 +79,21 @@ fn event_spot(
 {
     match model.events.list().get(number as usize) {
         Some(event) => places.event(alloc, *event),
+        None => Ok(None),
+    }
+}
+
+/// The declaration of the first of some events.
+fn first_event_spot(
+    alloc: Global,
+    places: &ModelPlaces,
+    model: &NumberedModel,
+    events: &[u32],
+) -> Mem<Option<Spot>>
+    ensures { IfOk result (λ spot. spot ≡ first_event_spot (record { assembly = places.now; universe = model.now.universe; facts = model.now.facts; events = model.now.events }) events.now) }
+{
+    match events.first() {
+        Some(event) => event_spot(alloc, places, model, *event),
         None => Ok(None),
     }
 }

@@ -30,14 +30,14 @@ module _ (seen : Seen) (loops : List Loop) (unused no_single unreached : List �
 
   -- what is added in four steps
   pub steps-told : (old first second third new : List Finding) (items : List ℕ) → items ≡ root_effects seen → first ≡ old ++ map InLoop loops → second ≡ first ++ map UnusedEvent (filter (is_error_event seen) unused)
-      → third ≡ second ++ map NoSingle no_single → new ≡ third ++ effect_findings items unreached → new ≡ old ++ system_findings seen loops unused no_single unreached
+      → third ≡ second ++ map NoSingle no_single → new ≡ third ++ effect_findings seen items unreached → new ≡ old ++ system_findings seen loops unused no_single unreached
   steps-told old first second third new items same one two three four =
       let in_loops : List Finding = map InLoop loops in
       let in_none : List Finding = map UnusedEvent (filter (is_error_event seen) unused) in
       let joined : List Finding = map NoSingle no_single in
-      let last : List Finding = effect_findings (root_effects seen) unreached in
+      let last : List Finding = effect_findings seen (root_effects seen) unreached in
       four
-      ∙ (λ i. three i ++ effect_findings (same i) unreached)
+      ∙ (λ i. three i ++ effect_findings seen (same i) unreached)
       ∙ (λ i. (two i ++ joined) ++ last)
       ∙ (λ i. ((one i ++ in_none) ++ joined) ++ last)
       ∙ append_assoc ((old ++ in_loops) ++ in_none) joined last

@@ -34,9 +34,9 @@ use Rattle.propagation_links.specs.declared.link.PointAt.{PointAt}
 use Rattle.model_facts.specs.Assembly.{model_at, points_in}
 use Rattle.model_facts.specs.Facts.{inward_of, is_linked, outward_of}
 use Rattle.fact_formulas.specs.Formulas.{end_of}
-use Rattle.model_review.specs.Seen.{Seen, declared_for, is_lost_event, is_lost_fact, is_used, may_come, number_at, side_in, source_number, state_number, states_of, stops, types_in}
+use Rattle.model_review.specs.Seen.{Seen, declared_for, is_always, is_lost_event, is_lost_fact, is_used, may_come, number_at, side_in, source_number, state_number, states_of, stops, types_in}
 use Rattle.model_review.specs.declared.finding.Finding.{Finding}
-use Rattle.model_review.specs.declared.finding.Finding.TheVariants.{CoreRate, Dry, GoesNowhere, HiddenLink, HiddenPath, HiddenSource, HiddenTransitions, InModes, Never, NeverState, NoLink, NoSource, NotDeclared, Open, Quiet, SinkLeaves, StopsHere, StrayPath, StrayRate, TwoWays, TypeRoot, Unlike, UnreadBinding, UnusedState}
+use Rattle.model_review.specs.declared.finding.Finding.TheVariants.{Always, AlwaysState, CoreRate, Dry, GoesNowhere, HiddenLink, HiddenPath, HiddenSource, HiddenTransitions, InModes, Never, NeverState, NoLink, NoSource, NotDeclared, Open, Quiet, SinkLeaves, StopsHere, StrayPath, StrayRate, TwoWays, TypeRoot, Unlike, UnreadBinding, UnusedState}
 use Rattle.model_review.specs.declared.finding.TypesAt.{TypesAt}
 
 -- types at a side
@@ -310,6 +310,39 @@ never_state seen model state = cond (is_never seen model state) (NeverState stat
 abbrev pub never_states : Seen → ErrorModel → List Finding
 never_states seen model = flat_map (never_state seen model) (numbers_below (length (all_variants model.states.sorts)))
 
+-- ---- what always holds
+
+-- the types that come out of a side where no event occurs
+abbrev pub always_types : Seen → PointAt → List ℕ
+always_types seen side = types_where seen side (λ type. is_always seen (number_at seen side type))
+
+-- these types at a side, if there are any
+abbrev pub always_with : Seen → PointAt → List Finding
+always_with seen side = if_any (λ types. Always (types_at side types)) (always_types seen side)
+
+-- A point is told with the types that come out of it where no event occurs, if there are any.
+abbrev pub always_at : Seen → ℕ → ℕ → Point → List Finding
+always_at seen owner number point = always_with seen (outward_of owner number)
+
+abbrev pub always_out : Seen → ℕ → ErrorModel → List Finding
+always_out seen owner model = numbered_from (always_at seen owner) 0 model.points
+
+-- whether a state of a component is not initial, and the component is in it where no event occurs
+abbrev pub is_always_state : Seen → ℕ → ErrorModel → ℕ → Bool
+is_always_state seen owner model state = not (slice_index_or model.states.always state false) && is_always seen (state_number seen owner state)
+
+-- a state of a component, if it is one
+abbrev pub always_state : Seen → ℕ → ErrorModel → ℕ → List Finding
+always_state seen owner model state = cond (is_always_state seen owner model state) (AlwaysState owner state ∷ []) []
+
+-- those of a component
+abbrev pub always_states : Seen → ℕ → ErrorModel → List Finding
+always_states seen owner model = flat_map (always_state seen owner model) (numbers_below (length (all_variants model.states.sorts)))
+
+-- What is told of what holds where no event occurs: at the outward sides of points, and of states that are not initial.
+abbrev pub always_told : Seen → List Finding
+always_told seen = of_components seen (always_out seen) ++ of_components seen (always_states seen)
+
 -- ---- states that nothing looks at
 
 -- whether a component that is not the root may be in a state that is not initial, and the state occurs in no formula
@@ -333,13 +366,14 @@ uneven_told seen =
     map Unlike (unlike_states seen.numbered.assembly.instance seen.system seen.numbered.facts)
     ++ map Quiet (quiet_states seen.numbered.assembly seen.system seen.numbered.facts)
 
--- What is told of states: those of the root in which it never is, those of parts that occur in no formula, and those that are used otherwise than
--- others.
+-- What is told of states: those of the root in which it never is, behind them what always holds, those of parts that occur in no formula, and those
+-- that are used otherwise than others.
 abbrev pub states_told : Seen → List Finding
 states_told seen =
     never_states seen (model_at seen.numbered.assembly 0)
+    ++ (always_told seen
     ++ (of_components seen (unused_states seen)
-    ++ uneven_told seen)
+    ++ uneven_told seen))
 
 -- ---- text that is not looked at
 

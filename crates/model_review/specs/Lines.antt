@@ -15,10 +15,10 @@ use Rattle.model_facts.specs.Assembly.{Assembly, model_at}
 use Rattle.model_facts.specs.Facts.{fact_in}
 use Rattle.model_facts.specs.Names.{behind, fact_name as its_fact_name, path_at, path_text, point_name, type_text}
 use Rattle.model_facts.specs.declared.keys.FactKind.TheVariants.{State}
-use Rattle.fault_system.specs.Systems.{event_name, fact_name}
+use Rattle.fault_system.specs.Systems.{System, event_name, fact_name}
 use Rattle.model_review.specs.Seen.{Seen}
 use Rattle.model_review.specs.declared.finding.Finding.{Finding}
-use Rattle.model_review.specs.declared.finding.Finding.TheVariants.{CoreRate, Dry, GoesNowhere, HiddenLink, HiddenPath, HiddenSource, HiddenTransitions, InLoop, InModes, Never, NeverState, NoEffect, NoLink, NoSingle, NoSource, NotDeclared, Open, Quiet, SinkLeaves, StopsHere, StrayPath, StrayRate, TwoWays, TypeRoot, Unlike, UnreachedEvent, UnreadBinding, UnusedEvent, UnusedState}
+use Rattle.model_review.specs.declared.finding.Finding.TheVariants.{Always, AlwaysState, CoreRate, Dry, GoesNowhere, HiddenLink, HiddenPath, HiddenSource, HiddenTransitions, InLoop, InModes, Never, NeverState, NoEffect, NoLink, NoSingle, NoSource, NotDeclared, Open, Quiet, SinkLeaves, StopsHere, StrayPath, StrayRate, TwoWays, TypeRoot, Unlike, UnreachedEvents, UnreadBinding, UnusedEvent, UnusedState}
 use Rattle.model_review.specs.declared.finding.TypesAt.{TypesAt}
 
 -- ---- sides
@@ -95,6 +95,12 @@ dotted (name ∷ others) = name ++ further_names others
 abbrev pub part_text : Assembly → Part → List ℕ
 part_text assembly part = behind assembly part.component part.name
 
+-- ---- events
+
+-- the names of events, each behind a blank
+abbrev pub event_names : System → List ℕ → List ℕ
+event_names system events = flat_map (λ event. codes " " ++ event_name system event) events
+
 -- ---- lines
 
 -- what a line says
@@ -114,6 +120,8 @@ finding_text seen (Dry at) = codes "dry " ++ types_text seen.numbered.assembly a
 finding_text seen (NoSource side) = codes "no-source " ++ side_text seen.numbered.assembly side
 finding_text seen (Never at) = codes "never " ++ types_text seen.numbered.assembly at
 finding_text seen (NeverState state) = codes "never " ++ its_fact_name seen.numbered.assembly (fact_in 0 (State state))
+finding_text seen (Always at) = codes "always " ++ types_text seen.numbered.assembly at
+finding_text seen (AlwaysState owner state) = codes "always " ++ its_fact_name seen.numbered.assembly (fact_in owner (State state))
 finding_text seen (UnusedState owner state) = codes "unused-state " ++ its_fact_name seen.numbered.assembly (fact_in owner (State state))
 finding_text seen (Unlike one) = codes "unlike " ++ (fact_name seen.system one.state ++ (codes " in " ++ fact_name seen.system one.fact))
 finding_text seen (Quiet one) = codes "quiet " ++ (fact_name seen.system one.state ++ (codes " at " ++ side_text seen.numbered.assembly one.side))
@@ -127,4 +135,4 @@ finding_text seen (InLoop loop) = codes "loop " ++ (decimal loop.size ++ (codes 
 finding_text seen (UnusedEvent event) = codes "unused-event " ++ event_name seen.system event
 finding_text seen (NoSingle event) = codes "no-single " ++ event_name seen.system event
 finding_text seen NoEffect = codes "no-effect root"
-finding_text seen (UnreachedEvent event) = codes "unreached-event " ++ event_name seen.system event
+finding_text seen (UnreachedEvents events) = codes "unreached-event" ++ event_names seen.system events

@@ -20,7 +20,7 @@ use Rattle.fact_formulas.specs.Flat.{is_of_root, system_by}
 use Rattle.fact_formulas.specs.Numbered.{Numbered, numbered_of}
 use Rattle.system_review.specs.Alone.{made_by_event, made_by_fact}
 use Rattle.system_review.specs.Occurring.{used_in}
-use Rattle.system_review.specs.Possible.{possible_in}
+use Rattle.system_review.specs.Possible.{always_in, possible_in}
 
 -- what a review looks at: a model whose facts and events are numbered, its system, and those of its facts that are effects
 pub record Seen : Type 0 where
@@ -69,6 +69,10 @@ source_number seen owner flow = event_number seen.numbered.events (event_in owne
 -- whether a fact is there, and may come about
 abbrev pub may_come : Seen → Option ℕ → Bool
 may_come seen fact = option_map_or (possible_in seen.system) fact false
+
+-- whether a fact is there, and holds where no event occurs
+abbrev pub is_always : Seen → Option ℕ → Bool
+is_always seen fact = option_map_or (always_in seen.system) fact false
 
 -- whether a fact is there, may come about, and occurs in no formula
 abbrev pub stops : Seen → Option ℕ → Bool

@@ -1,5 +1,8 @@
 -- What a review tells of the loops and the events of a model.
-use Rattle.std.specs.Prelude.{ℕ, ◌≡◌, ◌==◌, cond, List, [], ◌∷◌, ◌++◌, filter, length, map}
+use Rattle.std.specs.Prelude.{ℕ, ◌≡◌, ◌==◌, Bool, false, cond, nat_eq, List, [], ◌∷◌, ◌++◌, filter, flat_map, length, map, slice_get}
+use Rattle.std.specs.Option.{option_map_or}
+use Rattle.plain_values.specs.Numbered.{numbers_below}
+use Rattle.fault_system.specs.Systems.{System}
 use Rattle.system_review.specs.Listed.{AreAll}
 use Rattle.system_review.specs.Loops.{AreLoops}
 use Rattle.system_review.specs.Occurring.{IsUnreachedEvent, IsUnusedEvent}
@@ -8,7 +11,7 @@ use Rattle.system_review.specs.declared.looping.Loop.{Loop}
 use Rattle.model_review.specs.Findings.{model_findings}
 use Rattle.model_review.specs.Seen.{Seen, is_error_event, root_effects}
 use Rattle.model_review.specs.declared.finding.Finding.{Finding}
-use Rattle.model_review.specs.declared.finding.Finding.TheVariants.{InLoop, NoEffect, NoSingle, UnreachedEvent, UnusedEvent}
+use Rattle.model_review.specs.declared.finding.Finding.TheVariants.{InLoop, NoEffect, NoSingle, UnreachedEvents, UnusedEvent}
 
 -- The loops of the system of a model, the events that occur in no formula, those that occur in one and alone make no fact hold, and those that
 -- occur in one and on which no effect of the root depends.
@@ -18,14 +21,30 @@ pub record IsTold (seen : Seen) (loops : List Loop) (unused no_single unreached 
   pub no_single_are : AreAll (IsNoSingleEvent seen.system) (length seen.system.events) no_single
   pub unreached_are : AreAll (IsUnreachedEvent seen.system (root_effects seen)) (length seen.system.events) unreached
 
+-- whether an event is one of a component
+abbrev pub is_event_of : System → ℕ → ℕ → Bool
+is_event_of system owner event = option_map_or (λ info. nat_eq info.owner owner) (slice_get system.events event) false
+
+-- events of one component, if there are any
+abbrev pub unreached_with : List ℕ → List Finding
+unreached_with events = cond (length events == 0) [] (UnreachedEvents events ∷ [])
+
+-- those of some events that are of a component, if there are any
+abbrev pub unreached_of : System → List ℕ → ℕ → List Finding
+unreached_of system events owner = unreached_with (filter (is_event_of system owner) events)
+
+-- these events, for each component in order
+abbrev pub unreached_told : Seen → List ℕ → List Finding
+unreached_told seen events = flat_map (unreached_of seen.system events) (numbers_below (length seen.numbered.assembly.instance.components))
+
 -- what is told of these events by the effects of the root: that it has none; or that none depends on them
-abbrev pub effect_findings : List ℕ → List ℕ → List Finding
-effect_findings effects unreached = cond (length effects == 0) (NoEffect ∷ []) (map UnreachedEvent unreached)
+abbrev pub effect_findings : Seen → List ℕ → List ℕ → List Finding
+effect_findings seen effects unreached = cond (length effects == 0) (NoEffect ∷ []) (unreached_told seen unreached)
 
 -- What is told of loops and events, in this order; of the events in no formula the error events alone.
 abbrev pub system_findings : Seen → List Loop → List ℕ → List ℕ → List ℕ → List Finding
 system_findings seen loops unused no_single unreached =
-    map InLoop loops ++ (map UnusedEvent (filter (is_error_event seen) unused) ++ (map NoSingle no_single ++ effect_findings (root_effects seen) unreached))
+    map InLoop loops ++ (map UnusedEvent (filter (is_error_event seen) unused) ++ (map NoSingle no_single ++ effect_findings seen (root_effects seen) unreached))
 
 -- Exactly what is told of the loops and the events of a model stands behind what there was.
 abbrev pub AddsTold : Seen → List Finding → List Finding → Type 0

@@ -57,6 +57,10 @@ pub enum Finding {
     Never(TypesAt),
     /// The root is never in this state.
     NeverState(u32),
+    /// These types come out where no event occurs.
+    Always(TypesAt),
+    /// A component is in this state, which is not initial, where no event occurs.
+    AlwaysState(u32, u32),
     /// A component other than the root may be in this state, and nothing looks at it.
     UnusedState(u32, u32),
     /// A state of a part does not occur in a formula of the component around it, though the same state of a part of the same kind does.
@@ -83,8 +87,8 @@ pub enum Finding {
     NoSingle(u32),
     /// The root has no effect.
     NoEffect,
-    /// An event occurs in a formula, and no effect of the root depends on it.
-    UnreachedEvent(u32),
+    /// Events of one component occur in formulas, and no effect of the root depends on them.
+    UnreachedEvents(List<u32>),
 }
 
 /// Tells what there is to tell of some types, unless there are none.

@@ -8,7 +8,7 @@ ghost use Rattle.model_facts.specs.Assembly.{model_at};
 ghost use Rattle.model_facts.specs.Facts.{fact_in};
 ghost use Rattle.model_facts.specs.Names.{behind, fact_name as its_fact_name, path_at, path_text, point_name, type_text};
 ghost use Rattle.model_facts.specs.declared.keys.FactKind.TheVariants.{State};
-ghost use Rattle.model_review.specs.Lines.{connection_name, direction, dotted, finding_text, flow_at, flow_text, further_names, further_types, is_no_sink, part_text, side_text, type_list, types_text, unlinked_name, unlinked_text, user_path_name};
+ghost use Rattle.model_review.specs.Lines.{connection_name, direction, dotted, event_names, finding_text, flow_at, flow_text, further_names, further_types, is_no_sink, part_text, side_text, type_list, types_text, unlinked_name, unlinked_text, user_path_name};
 
 use crate::finding::{Finding, TypesAt};
 use crate::view::View;
@@ -72,6 +72,10 @@ fn push_text(alloc: Global, text: &mut Vec<u8>, view: &View, finding: &Finding) 
         Finding::NoSource(side) => push_side_at(text, b"no-source ", assembly, *side),
         Finding::Never(at) => push_at(text, b"never ", assembly, at),
         Finding::NeverState(state) => push_state(alloc, text, b"never ", assembly, 0, *state),
+        Finding::Always(at) => push_at(text, b"always ", assembly, at),
+        Finding::AlwaysState(owner, state) => {
+            push_state(alloc, text, b"always ", assembly, *owner, *state)
+        }
         Finding::UnusedState(owner, state) => {
             push_state(alloc, text, b"unused-state ", assembly, *owner, *state)
         }
@@ -87,8 +91,8 @@ fn push_text(alloc: Global, text: &mut Vec<u8>, view: &View, finding: &Finding) 
         Finding::UnusedEvent(event) => push_event(text, b"unused-event ", view.system(), *event),
         Finding::NoSingle(event) => push_event(text, b"no-single ", view.system(), *event),
         Finding::NoEffect => push_two(text, b"no-effect ", b"root"),
-        Finding::UnreachedEvent(event) => {
-            push_event(text, b"unreached-event ", view.system(), *event)
+        Finding::UnreachedEvents(events) => {
+            push_events(text, b"unreached-event", view.system(), events.items())
         }
     }
 }
@@ -152,6 +156,24 @@ fn push_event(text: &mut Vec<u8>, word: &[u8], system: &FaultSystem, event: u32)
     ensures { OnOk result (text.new.items ≡ text.old.items ++ (word.now ++ event_name system.now event)) }
 {
     push_two(text, word, system.event_name(event))
+}
+
+/// Adds a word, and the names of events.
+fn push_events(text: &mut Vec<u8>, word: &[u8], system: &FaultSystem, events: &[u32]) -> Mem<()>
+    ensures { OnOk result (text.new.items ≡ text.old.items ++ (word.now ++ event_names system.now events.now)) }
+{
+    text.extend_from_slice(word)?;
+    push_event_names(text, system, events)
+}
+
+/// Adds the names of events, each behind a blank.
+fn push_event_names(text: &mut Vec<u8>, system: &FaultSystem, events: &[u32]) -> Mem<()>
+    ensures { OnOk result (text.new.items ≡ text.old.items ++ event_names system.now events.now) }
+{
+    for event in events {
+        push_event(text, b" ", system, *event)?;
+    }
+    Ok(())
 }
 
 /// Adds a word, and that a component is in a state.

@@ -3,7 +3,7 @@
 ghost use Rattle.std.specs.Prelude.{◌≡◌, ◌++◌, IfOk, OnOk, false, flat_map, length, map, true};
 ghost use Rattle.plain_values.specs.Rising.{RisesWithin};
 ghost use Rattle.model_facts.specs.Assembly.{model_at};
-ghost use Rattle.model_review.specs.Findings.{bindings_told, dry_sides, hidden_flows, hidden_link, leaves_of, model_findings, never_out, no_links, no_sources, nowhere_out, of_components, open_ends, rates_told, states_told, stops_of, stops_told, text_findings, uneven_told, ways_told};
+ghost use Rattle.model_review.specs.Findings.{always_told, bindings_told, dry_sides, hidden_flows, hidden_link, leaves_of, model_findings, never_out, no_links, no_sources, nowhere_out, of_components, open_ends, rates_told, states_told, stops_of, stops_told, text_findings, uneven_told, ways_told};
 ghost use Rattle.event_rates.specs.Unused.{unused_rates};
 ghost use Rattle.stray_bindings.specs.Stray.{stray_bindings};
 ghost use Rattle.uneven_parts.specs.Quiet.{quiet_states};
@@ -19,8 +19,8 @@ use crate::ends::{DrySides, Linked, NoSources, OpenEnds};
 use crate::finding::Finding;
 use crate::flows::HiddenFlows;
 use crate::links::{HiddenLinks, NotDeclaredThere};
-use crate::sides::{Leaves, NeverOut, NowhereOut, Stops};
-use crate::states::{HiddenTransitions, NeverInState, UnusedStates};
+use crate::sides::{AlwaysOut, Leaves, NeverOut, NowhereOut, Stops};
+use crate::states::{AlwaysInState, HiddenTransitions, NeverInState, UnusedStates};
 use crate::told::add_told;
 use crate::view::View;
 use crate::walks::{AtPoints, AtStates, add_of_component, add_of_components, add_of_links};
@@ -112,13 +112,23 @@ fn add_inward(alloc: Global, found: &mut List<Finding>, view: &View) -> Mem<()>
     add_of_components(alloc, found, view, &AtPoints(sources))
 }
 
-/// Adds the states of the root in which it never is, those of its parts at which nothing looks, and those that are used otherwise than others.
+/// Adds the states of the root in which it never is, what always holds, the states of its parts at which nothing looks, and those that are used
+/// otherwise than others.
 fn add_states(alloc: Global, found: &mut List<Finding>, view: &View) -> Mem<()>
     ensures { OnOk result (found.new ≡ found.old ++ states_told view.now) }
 {
     add_of_component(alloc, found, view, &AtStates(NeverInState), 0)?;
+    add_always(alloc, found, view)?;
     add_of_components(alloc, found, view, &AtStates(UnusedStates))?;
     add_uneven(alloc, found, view)
+}
+
+/// Adds the types that come out where no event occurs, and the states that are not initial in which a component is then.
+fn add_always(alloc: Global, found: &mut List<Finding>, view: &View) -> Mem<()>
+    ensures { OnOk result (found.new ≡ found.old ++ always_told view.now) }
+{
+    add_of_components(alloc, found, view, &AtPoints(AlwaysOut))?;
+    add_of_components(alloc, found, view, &AtStates(AlwaysInState))
 }
 
 /// Adds the states of parts unlike others, and those that give nothing at one side of their component and something at another one.

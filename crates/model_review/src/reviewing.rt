@@ -17,7 +17,7 @@ use fact_formulas::NumberedModel;
 use model_facts::Assembly;
 use plain_values::{List, Mem, Name};
 use std::alloc::Global;
-use system_review::{possible_facts, used_facts};
+use system_review::{always_facts, possible_facts, used_facts};
 
 /// What a review tells of a model, in the order of docs/REVIEW_FINDINGS.md, and the line of each, without its end.
 #[derive(Drop)]
@@ -34,8 +34,9 @@ pub fn review(alloc: Global, assembly: &Assembly, model: &NumberedModel) -> Mem<
     ensures nothing_lost { IfOk result (λ reviewed. HasNoHiddenLine reviewed.lines → HoldTheSame (system_of assembly.now) (joined_by (numbered_of assembly.now))) }
 {
     let possible = possible_facts(alloc, &model.system)?;
+    let always = always_facts(alloc, &model.system)?;
     let used = used_facts(alloc, &model.system)?;
-    let view = View::new(assembly, model, &possible, &used);
+    let view = View::new(assembly, model, &possible, &always, &used);
     review_seen(alloc, &view)
 }
 

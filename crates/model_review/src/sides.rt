@@ -1,4 +1,4 @@
-//! Sides at which errors stop, from which they lead nowhere, or where they never come out.
+//! Sides at which errors stop, from which they lead nowhere, or where they never or always come out.
 
 ghost use Rattle.std.specs.Prelude.{◌≡◌, ◌&&◌, ◌++◌, IfOk, OnOk, filter, nat_eq, not};
 ghost use Rattle.std.specs.List.{list_any};
@@ -6,7 +6,7 @@ ghost use Rattle.error_libraries.specs.Search.{is_number_in};
 ghost use Rattle.propagation_points.specs.Uses.{covers};
 ghost use Rattle.model_facts.specs.Assembly.{model_at};
 ghost use Rattle.model_facts.specs.Facts.{inward_of, outward_of};
-ghost use Rattle.model_review.specs.Findings.{has_sink, if_any, is_left, is_sink_at, is_stopped, lost_types, nowhere_with, sink_takes, takes, types_at, types_where};
+ghost use Rattle.model_review.specs.Findings.{always_types, always_with, has_sink, if_any, is_left, is_sink_at, is_stopped, lost_types, nowhere_with, sink_takes, takes, types_at, types_where};
 ghost use Rattle.model_review.specs.Seen.{may_come, number_at};
 ghost use Rattle.model_review.specs.declared.finding.Finding.TheVariants.{Never, SinkLeaves, StopsHere};
 
@@ -295,6 +295,50 @@ fn lost_types(alloc: Global, view: &View, side: PointAt) -> Mem<List<u32>>
     let mut types = List::new(alloc);
     for kind in view.types(side) {
         types.push_if(*kind, view.stops(view.fact_at(side, *kind)))?;
+    }
+    Ok(types)
+}
+
+// ---- what always comes out
+
+/// The types that come out at a point where no event occurs, if there are any.
+#[derive(Clone, Copy)]
+pub(crate) struct AlwaysOut;
+
+impl PointFinding for AlwaysOut {
+    ghost use Rattle.model_review.specs.Findings.{always_at};
+
+    ghost finding = { λ _. always_at };
+
+    fn tell(
+        &self,
+        alloc: Global,
+        found: &mut List<Finding>,
+        view: &View,
+        at: PointPlace,
+        point: &Point,
+    ) -> Mem<()> {
+        let _ = point;
+        add_always_types(alloc, found, view, outward_of(at.owner, at.number))
+    }
+}
+
+/// Adds the types that come out of a side where no event occurs, if there are any.
+fn add_always_types(alloc: Global, found: &mut List<Finding>, view: &View, side: PointAt) -> Mem<()>
+    ensures { OnOk result (found.new ≡ found.old ++ always_with view.now side) }
+{
+    let types = always_types(alloc, view, side)?;
+    let at = TypesAt { side, types };
+    tell_unless(found, at.is_empty(), Finding::Always(at))
+}
+
+/// The types that come out of a side where no event occurs.
+fn always_types(alloc: Global, view: &View, side: PointAt) -> Mem<List<u32>>
+    ensures { IfOk result (λ types. types ≡ always_types view.now side) }
+{
+    let mut types = List::new(alloc);
+    for kind in view.types(side) {
+        types.push_if(*kind, view.is_always(view.fact_at(side, *kind)))?;
     }
     Ok(types)
 }

@@ -1,7 +1,7 @@
-//! Transitions that are hidden, states that never come about, and states that nothing looks at.
+//! Transitions that are hidden, states that never come about or always hold, and states that nothing looks at.
 
 ghost use Rattle.std.specs.Prelude.{◌≡◌, false, slice_index_or};
-ghost use Rattle.model_review.specs.Findings.{count_steps, is_never, is_unused_state, leads_on};
+ghost use Rattle.model_review.specs.Findings.{count_steps, is_always_state, is_never, is_unused_state, leads_on};
 
 use crate::finding::Finding;
 use crate::view::View;
@@ -104,6 +104,36 @@ fn is_never(view: &View, model: &ErrorModel, state: u32) -> bool
     ensures { result ≡ is_never view.now model.now state }
 {
     !is_marked(model.states.always.items(), state) && !view.may_come(view.state(0, state))
+}
+
+/// A state of a component, if it is not initial, and the component is in it where no event occurs.
+#[derive(Clone, Copy)]
+pub(crate) struct AlwaysInState;
+
+impl StateFinding for AlwaysInState {
+    ghost use Rattle.model_review.specs.Findings.{always_state};
+
+    ghost finding = { λ _. always_state };
+
+    fn tell(
+        &self,
+        found: &mut List<Finding>,
+        view: &View,
+        owner: u32,
+        model: &ErrorModel,
+        state: u32,
+    ) -> Mem<()> {
+        let is_always = is_always_state(view, owner, model, state);
+        found.push_if(Finding::AlwaysState(owner, state), is_always)?;
+        Ok(())
+    }
+}
+
+/// Whether a state of a component is not initial, and the component is in it where no event occurs.
+fn is_always_state(view: &View, owner: u32, model: &ErrorModel, state: u32) -> bool
+    ensures { result ≡ is_always_state view.now owner model.now state }
+{
+    !is_marked(model.states.always.items(), state) && view.is_always(view.state(owner, state))
 }
 
 /// A state of a component other than the root in which it may be, and at which nothing looks.

@@ -1,18 +1,19 @@
 //! Loops of facts, and events without effect.
 
-ghost use Rattle.std.specs.Prelude.{◌≡◌, ◌++◌, IfOk, OnOk, filter, length, map};
+ghost use Rattle.std.specs.Prelude.{◌≡◌, ◌++◌, IfOk, OnOk, filter, flat_map, length, map};
+ghost use Rattle.plain_values.specs.Numbered.{numbers_below};
 ghost use Rattle.plain_values.specs.Rising.{RisesWithin};
 ghost use Rattle.fact_formulas.specs.Flat.{is_of_root};
 ghost use Rattle.model_review.specs.Seen.{is_error_event, root_effects};
-ghost use Rattle.model_review.specs.Told.{AddsTold, effect_findings};
-ghost use Rattle.model_review.specs.declared.finding.Finding.TheVariants.{InLoop, NoSingle, UnreachedEvent, UnusedEvent};
+ghost use Rattle.model_review.specs.Told.{AddsTold, effect_findings, is_event_of, unreached_of, unreached_told};
+ghost use Rattle.model_review.specs.declared.finding.Finding.TheVariants.{InLoop, NoSingle, UnusedEvent};
 
-use crate::finding::Finding;
+use crate::finding::{Finding, tell_unless};
 use crate::view::View;
 use fact_formulas::is_of_root;
 use fault_system::FaultSystem;
 use plain_values::{List, Mem};
-use std::alloc::Global;
+use std::alloc::{AllocError, Global};
 use system_review::{Loop, loops, no_single_events, unreached_events, unused_events};
 
 /// Adds the loops of a model, its error events that occur in no formula, those of its events that alone make no fact hold, and what its
@@ -31,7 +32,7 @@ pub(crate) fn add_told(alloc: Global, found: &mut List<Finding>, view: &View) ->
     add_loops(found, loops.items())?;
     add_unused(found, view, unused.items())?;
     add_no_single(found, no_single.items())?;
-    add_unreached(found, root.items(), unreached.items())?;
+    add_unreached(alloc, found, view, root.items(), unreached.items())?;
     Ok(())
 }
 
@@ -75,22 +76,85 @@ fn add_no_single(found: &mut List<Finding>, events: &[u32]) -> Mem<()>
     Ok(())
 }
 
-/// Adds that the root has no effect, or the events on which none of its effects depends.
-fn add_unreached(found: &mut List<Finding>, effects: &[u32], unreached: &[u32]) -> Mem<()>
-    ensures { OnOk result (found.new ≡ found.old ++ effect_findings effects.now unreached.now) }
+/// Adds that the root has no effect, or of each component the events on which none of its effects depends.
+fn add_unreached(
+    alloc: Global,
+    found: &mut List<Finding>,
+    view: &View,
+    effects: &[u32],
+    unreached: &[u32],
+) -> Mem<()>
+    ensures { OnOk result (found.new ≡ found.old ++ effect_findings view.now effects.now unreached.now) }
 {
     if effects.is_empty() {
         found.push(Finding::NoEffect)?;
         return Ok(());
     }
-    add_events(found, unreached)
+    add_unreached_events(alloc, found, view, unreached)
 }
 
-fn add_events(found: &mut List<Finding>, events: &[u32]) -> Mem<()>
-    ensures { OnOk result (found.new ≡ found.old ++ map UnreachedEvent events.now) }
+fn add_unreached_events(
+    alloc: Global,
+    found: &mut List<Finding>,
+    view: &View,
+    unreached: &[u32],
+) -> Mem<()>
+    ensures { OnOk result (found.new ≡ found.old ++ unreached_told view.now unreached.now) }
 {
-    for event in events {
-        found.push(Finding::UnreachedEvent(*event))?;
+    let count = view.instance().components().len();
+    add_unreached_below(alloc, found, view.system(), unreached, count)
+}
+
+/// Adds those of some events that are of each of the first components.
+fn add_unreached_below(
+    alloc: Global,
+    found: &mut List<Finding>,
+    system: &FaultSystem,
+    events: &[u32],
+    count: usize,
+) -> Mem<()>
+    ensures { OnOk result (found.new ≡ found.old ++ flat_map (unreached_of system.now events.now) (numbers_below count)) }
+{
+    for owner in 0..count {
+        if owner > 4_294_967_295 {
+            return Err(AllocError);
+        }
+        add_unreached_of(alloc, found, system, events, owner as u32)?;
     }
     Ok(())
+}
+
+fn add_unreached_of(
+    alloc: Global,
+    found: &mut List<Finding>,
+    system: &FaultSystem,
+    events: &[u32],
+    owner: u32,
+) -> Mem<()>
+    ensures { OnOk result (found.new ≡ found.old ++ unreached_of system.now events.now owner) }
+{
+    let own = events_of(alloc, system, events, owner)?;
+    let is_none = own.items().is_empty();
+    tell_unless(found, is_none, Finding::UnreachedEvents(own))
+}
+
+/// Those of some events that are of a component.
+fn events_of(alloc: Global, system: &FaultSystem, events: &[u32], owner: u32) -> Mem<List<u32>>
+    ensures { IfOk result (λ own. own ≡ filter (is_event_of system.now owner) events.now) }
+{
+    let mut own = List::new(alloc);
+    for event in events {
+        own.push_if(*event, is_event_of(system, owner, *event))?;
+    }
+    Ok(own)
+}
+
+/// Whether an event is one of a component.
+fn is_event_of(system: &FaultSystem, owner: u32, event: u32) -> bool
+    ensures { result ≡ is_event_of system.now owner event }
+{
+    match system.event(event) {
+        Some(info) => info.owner == owner,
+        None => false,
+    }
 }

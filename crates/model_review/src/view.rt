@@ -6,10 +6,10 @@ ghost use Rattle.model_facts.specs.Assembly.{model_at, no_model};
 ghost use Rattle.model_facts.specs.Assembly.{side_at};
 ghost use Rattle.fact_formulas.specs.Facts.{fact_at};
 ghost use Rattle.propagation_points.specs.Uses.{side_types};
-ghost use Rattle.model_review.specs.Seen.{declared_for, is_error, is_error_event, is_lost_event, is_lost_fact, is_used, may_come, number_at, side_in, source_number, state_number, states_of, stops, types_in};
+ghost use Rattle.model_review.specs.Seen.{declared_for, is_always, is_error, is_error_event, is_lost_event, is_lost_fact, is_used, may_come, number_at, side_in, source_number, state_number, states_of, stops, types_in};
 ghost use Rattle.system_review.specs.Alone.{made_by_fact};
 ghost use Rattle.system_review.specs.Occurring.{used_in};
-ghost use Rattle.system_review.specs.Possible.{possible_in};
+ghost use Rattle.system_review.specs.Possible.{always_in, possible_in};
 
 use error_models::ErrorModel;
 use fact_formulas::{NumberedModel, fact_at};
@@ -29,6 +29,7 @@ pub(crate) struct View<'v> {
     assembly: &'v Assembly<'v>,
     model: &'v NumberedModel,
     possible: &'v Bits,
+    always: &'v Bits,
     used: &'v Bits,
 }
 
@@ -41,7 +42,7 @@ impl<'v> Model for View<'v> {
     ghost use Rattle.fault_system.specs.contracts.formula.Formula as formula;
     ghost use Rattle.fault_system.specs.Truth.{member};
     ghost use Rattle.system_review.specs.Occurring.{used_in};
-    ghost use Rattle.system_review.specs.Possible.{possible_in};
+    ghost use Rattle.system_review.specs.Possible.{always_in, possible_in};
     ghost use Rattle.model_review.specs.Seen.{Seen};
 
     ghost Value = { Seen };
@@ -54,18 +55,22 @@ impl<'v> Model for View<'v> {
       effects = v.model.now.effects;
     } };
 
-    ghost invariant = { λ v. ((n : ℕ) → member v.possible.now n ≡ possible_in v.model.now.system n) × ((n : ℕ) → member v.used.now n ≡ used_in v.model.now.system n) };
+    ghost invariant = { λ v. ((n : ℕ) → member v.possible.now n ≡ possible_in v.model.now.system n)
+        × ((n : ℕ) → member v.always.now n ≡ always_in v.model.now.system n)
+        × ((n : ℕ) → member v.used.now n ≡ used_in v.model.now.system n) };
 }
 
 impl<'v> View<'v> {
-    /// A model with its facts and events, in whose system these facts may come about, and these occur in formulas.
+    /// A model with its facts and events, in whose system these facts may come about, these always hold, and these occur in formulas.
     pub(crate) fn new(
         assembly: &'v Assembly<'v>,
         model: &'v NumberedModel,
         possible: &'v Bits,
+        always: &'v Bits,
         used: &'v Bits,
     ) -> View<'v>
         requires possible { (n : ℕ) → member possible.now n ≡ possible_in model.now.system n }
+        requires always { (n : ℕ) → member always.now n ≡ always_in model.now.system n }
         requires used { (n : ℕ) → member used.now n ≡ used_in model.now.system n }
         ensures { result ≡ record {
           numbered = record { assembly = assembly.now; universe = model.now.universe; facts = model.now.facts; events = model.now.events };
@@ -77,6 +82,7 @@ impl<'v> View<'v> {
             assembly,
             model,
             possible,
+            always,
             used,
         }
     }
@@ -213,6 +219,23 @@ impl<'v> View<'v> {
     {
         match fact {
             Some(fact) => self.is_possible(fact),
+            None => false,
+        }
+    }
+
+    /// Whether a fact holds where no event occurs.
+    fn always_holds(&self, fact: u32) -> bool
+        ensures { result ≡ always_in self.now.system fact }
+    {
+        self.always.has(fact)
+    }
+
+    /// Whether a fact is there, and holds where no event occurs.
+    pub(crate) fn is_always(&self, fact: Option<u32>) -> bool
+        ensures { result ≡ is_always self.now fact }
+    {
+        match fact {
+            Some(fact) => self.always_holds(fact),
             None => false,
         }
     }

@@ -1,9 +1,10 @@
 -- What holds under some events holds under more.
-use Rattle.std.proofs.Common.{ℕ, ◌≡◌, ◌<◌, true, length, Bool, List, ◌↔◌, Option, Some, None, ◌∙◌, sym, refl}
+use Rattle.std.proofs.Common.{ℕ, ◌≡◌, ◌<◌, true, length, Bool, List, ◌↔◌, Option, Some, None, ap, ◌∙◌, sym, refl}
 use Rattle.std.proofs.lemmas.Bool.{false≢true}
 use Rattle.std.specs.List.{slice_get}
 use Rattle.fault_system.specs.Truth.{NumberSet, Has, member, occurs_event, truth}
-use Rattle.fault_system.specs.Systems.{System, IsSystem, IsFact, Holds, applied}
+use Rattle.fault_system.specs.Rounds.{no_event}
+use Rattle.fault_system.specs.Systems.{System, IsSystem, IsFact, Holds, applied, holds_of}
 use Rattle.fault_system.specs.declared.formula.FactInfo.{FactInfo}
 use Rattle.fault_system.proofs.NumberSets.{member-map, member-past}
 use Rattle.fault_system.proofs.HoldsLaws.{holds_of-exact}
@@ -11,7 +12,7 @@ use Rattle.fault_system.proofs.TruthLaws.{same_answer}
 use Rattle.fault_system.proofs.Occurring.{truth-grows-on}
 use Rattle.fault_system.proofs.Occurrences.{occurs_event-in_range, fact-in_range}
 use Rattle.system_review.specs.Possible.{possible_in}
-use Rattle.system_review.specs.inner.Possible.{IsPossible}
+use Rattle.system_review.specs.inner.Possible.{IsAlways, IsPossible}
 
 -- what the formulas say of a fact is what its own one says
 pub applied-is : (system : System) (events facts : NumberSet) (n : ℕ) (fact : FactInfo) → IsFact system n fact → member (applied system events facts) n ≡ truth events facts fact.formula
@@ -44,3 +45,10 @@ pub possible-computed : (system : System) (marks : List Bool) → IsSystem syste
 possible-computed system marks is exact n = same_answer (member marks n) (possible_in system n)
     (λ has. (holds_of-exact system (λ event. true) n).1 (possible-by_all system (λ event. true) is (λ e low. refl) n ((exact n).0 has)))
     (λ has. (exact n).1 ((λ event. true), (holds_of-exact system (λ event. true) n).0 has))
+
+-- what holds where no event occurs is what always holds
+pub always-exact : (system : System) (marks : List Bool) → marks ≡ holds_of system no_event → (n : ℕ) → Has (member marks) n ↔ IsAlways system n
+always-exact system marks are n = (
+  (λ has events. holds-more system no_event events (λ m e fact at o h. absurd (false≢true h)) n ((holds_of-exact system no_event n).0 (sym (ap (λ all. member all n) are) ∙ has))),
+  (λ always. ap (λ all. member all n) are ∙ (holds_of-exact system no_event n).1 (always no_event)),
+)

@@ -17,6 +17,6 @@ pub use alone::{made_by_event, made_by_fact};
 pub use laws::nothing_is_lost;
 pub use looping::{Loop, loops};
 pub use occurring::used_facts;
-pub use possible::possible_facts;
+pub use possible::{always_facts, possible_facts};
 pub use single::no_single_events;
 pub use unreached::{unreached_events, unused_events};

@@ -1,9 +1,12 @@
-//! Which facts may come about: those that hold when all events occur, since what holds under some events holds under more.
+//! Which facts may come about, and which always hold: those that hold when all events occur, and those that do when none does, since what holds
+//! under some events holds under more.
 
 ghost use Rattle.std.specs.Prelude.{◌≡◌, ◌↔◌, ◌<◌, ℕ, IfOk, length};
 ghost use Rattle.fault_system.specs.Truth.{Has, member};
-ghost use Rattle.system_review.specs.Possible.{possible_in};
-ghost use Rattle.system_review.specs.inner.Possible.{IsPossible};
+ghost use Rattle.fault_system.specs.Systems.{holds_of};
+ghost use Rattle.fault_system.specs.Rounds.{no_event};
+ghost use Rattle.system_review.specs.Possible.{always_in, possible_in};
+ghost use Rattle.system_review.specs.inner.Possible.{IsAlways, IsPossible};
 
 use fault_system::{Bits, FaultSystem};
 use plain_values::Mem;
@@ -16,6 +19,17 @@ pub fn possible_facts(alloc: Global, system: &FaultSystem) -> Mem<Bits>
     ensures computed { IfOk result (λ facts. (n : ℕ) → member facts n ≡ possible_in system.now n) }
 {
     let events = all_events(alloc, system.events())?;
+    let facts = system.holds(alloc, &events)?;
+    Ok(facts)
+}
+
+/// The facts that hold where no event occurs, and so under each set of events.
+pub fn always_facts(alloc: Global, system: &FaultSystem) -> Mem<Bits>
+    ensures exact { IfOk result (λ facts. (n : ℕ) → Has (member facts) n ↔ IsAlways system.now n) }
+    ensures computed { IfOk result (λ facts. (n : ℕ) → member facts n ≡ always_in system.now n) }
+    ensures whole { IfOk result (λ facts. facts ≡ holds_of system.now no_event) }
+{
+    let events = Bits::new(alloc, system.events())?;
     let facts = system.holds(alloc, &events)?;
     Ok(facts)
 }

@@ -16,6 +16,7 @@ ghost use Rattle.system_review.specs.inner.Single.{Begins};
 use crate::alone::{Only, is_true_over};
 use crate::listing::missing;
 use crate::occurring::{mark, used_events};
+use crate::possible::always_facts;
 use fault_system::{Bits, FaultSystem, Formula};
 use plain_values::{List, Mem};
 use std::alloc::Global;
@@ -34,8 +35,8 @@ pub fn no_single_events(alloc: Global, system: &FaultSystem) -> Mem<List<u32>>
 fn single_events(alloc: Global, system: &FaultSystem) -> Mem<Bits>
     ensures { IfOk result (λ events. (e : ℕ) → Has (member events) e ↔ IsSingleEvent system.now e) }
 {
+    let facts = always_facts(alloc, system)?;
     let mut events = Bits::new(alloc, system.events())?;
-    let facts = system.holds(alloc, &events)?;
     mark_singles(system, &facts, &mut events);
     Ok(events)
 }

@@ -25,7 +25,7 @@ returns c =
     let one = c.in_ok-add_loops.ensures ∙ ap (λ (all : List Loop). c.args.found.now ++ map InLoop all) c.items-2.ensures.items in
     let two = c.in_ok-add_unused.ensures ∙ ap (λ (all : List ℕ). c.add_loops.new.found ++ map UnusedEvent (filter (is_error_event seen) all)) c.items-3.ensures.items in
     let three = c.in_ok-add_no_single.ensures ∙ ap (λ (all : List ℕ). c.add_unused.new.found ++ map NoSingle all) c.items-4.ensures.items in
-    let four = c.in_ok-add_unreached.ensures ∙ ap (λ (all : List ℕ). c.add_no_single.new.found ++ effect_findings c.items-5.result.now all) c.items-6.ensures.items in (
+    let four = c.in_ok-add_unreached.ensures ∙ ap (λ (all : List ℕ). c.add_no_single.new.found ++ effect_findings seen c.items-5.result.now all) c.items-6.ensures.items in (
       loops,
       unused,
       no_single,

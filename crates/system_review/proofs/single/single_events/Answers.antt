@@ -3,22 +3,18 @@ use Rattle.std.proofs.lemmas.List.{length-replicate}
 use Rattle.fault_system.specs.Truth.{member}
 use Rattle.fault_system.specs.Systems.{holds_of}
 use Rattle.fault_system.specs.Rounds.{no_event}
-use Rattle.fault_system.proofs.NumberSets.{same_set}
 use Rattle.system_review.proofs.Beginning.{begins-single, single-found}
-use Rattle.system_review.proofs.Occurs.{fresh-none, fresh-not}
+use Rattle.system_review.proofs.Occurs.{fresh-not}
 use Rattle.system_review.proofs.single.single_events.Goals as goal
 
 pub mark_singles-requires : goal.mark_singles-requires
-mark_singles-requires c =
-    let fresh : member c.in_ok-events.events ≡ no_event = same_set (fresh-none c.in_ok-events.events c.events.result c.in_ok-events.ensures) in
-    c.in_ok-facts.ensures.computed ∙ ap (holds_of c.args.system.now) fresh
+mark_singles-requires c = c.in_ok-facts.ensures.whole
 
 pub returns : goal.returns
 returns c e =
     let system = c.args.system.now in
     let facts = c.in_ok-facts.facts in
-    let fresh : member c.in_ok-events.events ≡ no_event = same_set (fresh-none c.in_ok-events.events c.events.result c.in_ok-events.ensures) in
-    let are : facts ≡ holds_of system no_event = c.in_ok-facts.ensures.computed ∙ ap (holds_of system) fresh in
+    let are : facts ≡ holds_of system no_event = c.in_ok-facts.ensures.whole in
     let long = ap length c.in_ok-events.ensures in (
       (λ h. ⊎_elim (λ old. absurd (fresh-not c.in_ok-events.events c.events.result c.in_ok-events.ensures e old)) (begins-single system facts are e) (c.mark_singles.ensures.right e h)),
       single-found system facts are c.events.ensures.system (member c.mark_singles.new.marks)

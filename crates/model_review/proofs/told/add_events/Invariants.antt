@@ -1,6 +1,0 @@
-use Rattle.std.proofs.Common.{◌≡◌, ◌++◌, map, take}
-use Rattle.model_review.specs.declared.finding.Finding.TheVariants.{UnreachedEvent}
-use Rattle.model_review.proofs.told.add_events.Given as goal
-
-abbrev pub invariant-loop-event : goal.invariant-loop-event
-invariant-loop-event l = l.found ≡ l.fn.found ++ map UnreachedEvent (take l.event-index l.events)
