@@ -1,5 +1,7 @@
 """The grammar of error model text (docs/PROFILE.md, "Error model text")."""
 
+import re
+
 from text import Node, Reader, written
 
 ERROR_WORDS = frozenset("""error types end use extends with properties type set renames
@@ -260,7 +262,7 @@ class ErrorReader(Reader):
 
     def properties(self):
         """Properties: of each its names, the tokens of its value, its targets that are paths, with
-        None for each other one, and the texts of all others."""
+        None for each other one, and of all others the texts and the names of those with a key."""
         found = []
         while self.is_name():
             names, targets, others = self.names(), [], []
@@ -271,16 +273,16 @@ class ErrorReader(Reader):
             if self.accept("applies"):
                 self.expect("to")
                 targets = self.list_of(self.applies_target)
-                others = [text for is_path, text in targets if not is_path]
-                targets = [is_path for is_path, _ in targets]
+                others = [(text, keyed) for is_path, text, keyed in targets if not is_path]
+                targets = [is_path for is_path, _, _ in targets]
             self.expect(";")
             found.append(Node(names=written(names), value=value, targets=targets, others=others,
                               place=names[0].place))
         return found
 
     def applies_target(self):
-        """One or more of ID, word, `.`, `^` and `@`: names with dots, or None for others; and its
-        text."""
+        """One or more of ID, word, `.`, `^` and `@`: names with dots, or None for others; its
+        text; and of `^a.b@c.d` the four names."""
         signs, tokens = (".", "^", "@") + POINT_WORDS, []
         if not (self.is_name() or self.is_next(*signs)):
             self.fail()
@@ -289,7 +291,10 @@ class ErrorReader(Reader):
         names, dots = tokens[::2], tokens[1::2]
         is_path = len(names) > len(dots) and set(written(dots)) <= {"."}
         is_path = is_path and all(token.kind == "word" for token in names)
-        return (written(names) if is_path else None), "".join(written(tokens))
+        text = "".join(written(tokens))
+        is_keyed = re.fullmatch(r"\^\w+(\.\w+)*@\w+(\.\w+)*", text)
+        keyed = tuple(re.findall(r"\w+", text)) if is_keyed else None
+        return (written(names) if is_path else None), text, keyed
 
     # Clauses
 

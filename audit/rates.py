@@ -18,9 +18,10 @@ def rate_properties(owners):
     return [item for owner in owners for item in owner.properties if item.names in PROPERTIES]
 
 
-def associations(owners):
-    """Its values and targets."""
-    return [(item.value, item.targets) for item in rate_properties(owners)]
+def associations(owners, profile):
+    """Its values and targets, by the second profile those of the form `^a.b@c` too."""
+    return [(item.value, item.targets + [keyed for _, keyed in item.others if keyed and profile == 2])
+            for item in rate_properties(owners)]
 
 
 def sayings(facts, event):
@@ -36,7 +37,8 @@ def sayings(facts, event):
         key = (part.path.rsplit(".", 1)[-1],) + key
         part = part.parent
     owners = owners[1:] + owners[:1]
-    values = [(who, [value for value, targets in associations(texts) if key in targets])
+    values = [(who, [value for value, targets in associations(texts, facts.profile)
+                     if key in targets])
               for who, texts, key in owners]
     return [(who, found[-1]) for who, found in values if found]
 

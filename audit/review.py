@@ -319,7 +319,8 @@ class Review:
 
     def unused_rates(self):
         """`unused-rate OWNER TARGET`: of the clauses, and then of the machine; of each property
-        first the paths, then what is none, and a dash where it applies to nothing."""
+        first the paths, then what is none (by the second profile also what names none behind
+        a `^`), and a dash where it applies to nothing."""
         known = {part.path: set() for part in self.facts.parts}
         for event in self.facts.events:
             part, key = self.facts.parts[event[0]], key_of(self.facts, event)
@@ -331,7 +332,9 @@ class Review:
             texts = part.clauses + ([part.machine] if part.machine else [])
             for item in rate_properties(texts):
                 paths = [path for path in item.targets if path and path not in known[part.path]]
-                texts = [".".join(path) for path in paths] + item.others
+                texts = [".".join(path) for path in paths]
+                texts += [text for text, keyed in item.others if not (
+                    self.facts.profile == 2 and keyed in known[part.path])]
                 for text in texts + ([] if item.targets else ["-"]):
                     yield f"unused-rate {part.path} {text}", item.place
 

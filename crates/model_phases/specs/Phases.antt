@@ -44,7 +44,7 @@ flat_of assembly = record {
   components = length assembly.instance.components;
   system = system_of assembly;
   effects = effects_of assembly;
-  rates = map (rate_in assembly.instance) (system_of assembly).events;
+  rates = map (rate_in assembly.types.profile assembly.instance) (system_of assembly).events;
 }
 
 -- This is the model that is put together, and it is plain.

@@ -64,7 +64,9 @@ impl FromAssembly for FlatModel {
     ghost phase = { flat_phase };
 
     fn of(alloc: Global, assembly: &Assembly, model: NumberedModel) -> Result<FlatModel, Status> {
-        let rates = rates_of(alloc, assembly.instance(), model.system.event_infos())?;
+        let profile = assembly.types().profile();
+        let events = model.system.event_infos();
+        let rates = rates_of(alloc, profile, assembly.instance(), events)?;
         Ok(FlatModel {
             components: assembly.instance().components().len() as u32,
             system: model.system,

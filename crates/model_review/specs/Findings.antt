@@ -386,7 +386,7 @@ bindings_told seen =
 -- What is told of rates: those in error model text that are said of no event, and those in core text, which count for no event.
 abbrev pub rates_told : Seen → List Finding
 rates_told seen =
-    map StrayRate (unused_rates seen.numbered.assembly.instance seen.system.events)
+    map StrayRate (unused_rates seen.numbered.assembly.types.profile seen.numbered.assembly.instance seen.system.events)
     ++ map CoreRate (unread_parts what.Rates seen.numbered.assembly.instance)
 
 -- What is told of the text: what stands in modes, bindings, rates, and the implementations of a root that is a component type.

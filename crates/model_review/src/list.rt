@@ -280,9 +280,10 @@ fn add_core_rates(alloc: Global, found: &mut List<Finding>, view: &View) -> Mem<
 }
 
 fn add_unused_rates(alloc: Global, found: &mut List<Finding>, view: &View) -> Mem<()>
-    ensures { OnOk result (found.new ≡ found.old ++ map StrayRate (unused_rates view.now.numbered.assembly.instance view.now.system.events)) }
+    ensures { OnOk result (found.new ≡ found.old ++ map StrayRate (unused_rates view.now.numbered.assembly.types.profile view.now.numbered.assembly.instance view.now.system.events)) }
 {
-    let rates = unused_rates(alloc, view.instance(), view.system().event_infos())?;
+    let profile = view.assembly().types().profile();
+    let rates = unused_rates(alloc, profile, view.instance(), view.system().event_infos())?;
     add_rates(alloc, found, rates.items())
 }
 
