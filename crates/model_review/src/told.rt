@@ -1,7 +1,6 @@
 //! Loops of facts, and events without effect.
 
-ghost use Rattle.std.specs.Prelude.{◌≡◌, ◌++◌, IfOk, OnOk, filter, flat_map, length, map};
-ghost use Rattle.plain_values.specs.Numbered.{numbers_below};
+ghost use Rattle.std.specs.Prelude.{◌≡◌, ◌++◌, IfOk, OnOk, filter, length, map};
 ghost use Rattle.plain_values.specs.Rising.{RisesWithin};
 ghost use Rattle.fact_formulas.specs.Flat.{is_of_root};
 ghost use Rattle.model_review.specs.Seen.{is_error_event, root_effects};
@@ -13,7 +12,7 @@ use crate::view::View;
 use fact_formulas::is_of_root;
 use fault_system::FaultSystem;
 use plain_values::{List, Mem};
-use std::alloc::{AllocError, Global};
+use std::alloc::Global;
 use system_review::{Loop, loops, no_single_events, unreached_events, unused_events};
 
 /// Adds the loops of a model, its error events that occur in no formula, those of its events that alone make no fact hold, and what its
@@ -101,25 +100,9 @@ fn add_unreached_events(
 ) -> Mem<()>
     ensures { OnOk result (found.new ≡ found.old ++ unreached_told view.now unreached.now) }
 {
-    let count = view.instance().components().len();
-    add_unreached_below(alloc, found, view.system(), unreached, count)
-}
-
-/// Adds those of some events that are of each of the first components.
-fn add_unreached_below(
-    alloc: Global,
-    found: &mut List<Finding>,
-    system: &FaultSystem,
-    events: &[u32],
-    count: usize,
-) -> Mem<()>
-    ensures { OnOk result (found.new ≡ found.old ++ flat_map (unreached_of system.now events.now) (numbers_below count)) }
-{
-    for owner in 0..count {
-        if owner > 4_294_967_295 {
-            return Err(AllocError);
-        }
-        add_unreached_of(alloc, found, system, events, owner as u32)?;
+    let system = view.system();
+    for owner in 0..view.instance().components().len() {
+        add_unreached_of(alloc, found, system, unreached, owner as u32)?;
     }
     Ok(())
 }
