@@ -1,14 +1,13 @@
 -- What a review tells of the loops and the events of a model.
-use Rattle.std.specs.Prelude.{ℕ, ◌≡◌, ◌==◌, Bool, false, cond, nat_eq, List, [], ◌∷◌, ◌++◌, filter, flat_map, length, map, slice_get}
+use Rattle.std.specs.Prelude.{ℕ, ◌≡◌, ◌==◌, Bool, false, cond, nat_eq, List, [], ◌∷◌, ◌++◌, filter, length, map, slice_get}
 use Rattle.std.specs.Option.{option_map_or}
-use Rattle.plain_values.specs.Numbered.{numbers_below}
 use Rattle.fault_system.specs.Systems.{System}
 use Rattle.system_review.specs.Listed.{AreAll}
 use Rattle.system_review.specs.Loops.{AreLoops}
 use Rattle.system_review.specs.Occurring.{IsUnreachedEvent, IsUnusedEvent}
 use Rattle.system_review.specs.Single.{IsNoSingleEvent}
 use Rattle.system_review.specs.declared.looping.Loop.{Loop}
-use Rattle.model_review.specs.Findings.{model_findings}
+use Rattle.model_review.specs.Findings.{model_findings, of_components}
 use Rattle.model_review.specs.Seen.{Seen, is_error_event, root_effects}
 use Rattle.model_review.specs.declared.finding.Finding.{Finding}
 use Rattle.model_review.specs.declared.finding.Finding.TheVariants.{InLoop, NoEffect, NoSingle, UnreachedEvents, UnusedEvent}
@@ -35,7 +34,7 @@ unreached_of system events owner = unreached_with (filter (is_event_of system ow
 
 -- these events, for each component in order
 abbrev pub unreached_told : Seen → List ℕ → List Finding
-unreached_told seen events = flat_map (unreached_of seen.system events) (numbers_below (length seen.numbered.assembly.instance.components))
+unreached_told seen events = of_components seen (λ owner model. unreached_of seen.system events owner)
 
 -- what is told of these events by the effects of the root: that it has none; or that none depends on them
 abbrev pub effect_findings : Seen → List ℕ → List ℕ → List Finding

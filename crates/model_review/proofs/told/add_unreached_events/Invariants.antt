@@ -1,7 +1,7 @@
-use Rattle.std.proofs.Common.{◌≡◌, ◌++◌, flat_map}
-use Rattle.plain_values.specs.Numbered.{numbers_below}
+use Rattle.std.proofs.Common.{◌≡◌, ◌++◌, take}
+use Rattle.plain_values.specs.Numbered.{numbered_from}
 use Rattle.model_review.specs.Told.{unreached_of}
 use Rattle.model_review.proofs.told.add_unreached_events.Given as goal
 
 abbrev pub invariant-loop-owner : goal.invariant-loop-owner
-invariant-loop-owner l = l.found ≡ l.fn.found ++ flat_map (unreached_of l.view.system l.unreached) (numbers_below l.owner)
+invariant-loop-owner l = l.found ≡ l.fn.found ++ numbered_from (λ owner component. unreached_of l.view.system l.unreached owner) 0 (take l.owner l.view.numbered.assembly.instance.components)
