@@ -10,7 +10,6 @@ use Rattle.fault_system.specs.declared.formula.EventInfo.{EventInfo}
 use Rattle.plain_values.specs.Numbered.{numbered_from}
 use Rattle.plain_values.specs.declared.spot.Spot.{Spot}
 use Rattle.package_index.specs.Names.{is_same_name}
-use Rattle.component_extension.specs.declared.effective.Effective.{Effective}
 use Rattle.error_models.specs.Below.{machine_of}
 use Rattle.instantiator.specs.declared.path.Component.{Component}
 use Rattle.instantiator.specs.Whole.{Instance, effective_in}
