@@ -1,2 +1,4 @@
+mod Examples
 mod FittingLaws
+mod TableLaws
 mod UnusedLaws

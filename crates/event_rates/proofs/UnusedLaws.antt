@@ -1,8 +1,9 @@
 -- The rates that are said of no event, with those of one component more, and sets of names.
-use Rattle.std.proofs.Common.{◌≡◌, ◌<◌, ◌+◌, ℕ, Bool, true, false, ◌||◌, cond, List, [], ◌∷◌, ◌++◌, length, take, get_or, None, refl, sym, ap, ◌∙◌}
+use Rattle.std.proofs.Common.{◌≡◌, ◌<◌, ◌+◌, ℕ, Bool, true, false, ◌||◌, cond, List, [], ◌++◌, length, take, get_or, None, refl, sym, ap, ◌∙◌}
 use Rattle.std.proofs.lemmas.List.{get_or_default}
 use Rattle.plain_values.specs.Numbered.{numbered_from}
 use Rattle.package_index.proofs.Loops.{any-more, numbered-more}
+use Rattle.profiles.specs.declared.profile.Profile.{Profile}
 use Rattle.package_index.specs.Names.{is_same_name}
 use Rattle.package_index.specs.declared.words.Words.{Words}
 use Rattle.package_index.specs.inner.Names.{names_of}
@@ -13,15 +14,15 @@ use Rattle.event_rates.specs.Unused.{unused_at, unused_in}
 use Rattle.event_rates.specs.declared.unused.UnusedRate.{UnusedRate}
 use Rattle.event_rates.specs.inner.Known.{KnowsNames}
 
-pub unused-more : (names : List (List (List ℕ))) (instance : Instance) (i : ℕ) → i < length instance.components → (before after : List UnusedRate)
-    → before ≡ numbered_from (unused_at names instance) 0 (take i instance.components) → after ≡ before ++ unused_in names instance i
-    → after ≡ numbered_from (unused_at names instance) 0 (take (i + 1) instance.components)
-unused-more names instance i within before after had adds =
+pub unused-more : (profile : Profile) (names : List (List (List ℕ))) (instance : Instance) (i : ℕ) → i < length instance.components → (before after : List UnusedRate)
+    → before ≡ numbered_from (unused_at profile names instance) 0 (take i instance.components) → after ≡ before ++ unused_in profile names instance i
+    → after ≡ numbered_from (unused_at profile names instance) 0 (take (i + 1) instance.components)
+unused-more profile names instance i within before after had adds =
     let all = instance.components in
     let none : Component = record { path = []; classifier = None } in
     let component : Component = get_or all i none in
-    adds ∙ ap (λ front. front ++ unused_in names instance i) had
-    ∙ sym (numbered-more (unused_at names instance) all i component within (get_or_default all i none component within))
+    adds ∙ ap (λ front. front ++ unused_in profile names instance i) had
+    ∙ sym (numbered-more (unused_at profile names instance) all i component within (get_or_default all i none component within))
 
 -- a name that is put into a set
 one-more : (b had : Bool) → cond b true had ≡ (had || b)

@@ -1,9 +1,12 @@
 -- The associations of rates, and which of them fits an event.
-use Rattle.std.specs.Prelude.{ℕ, Bool, true, false, ◌&&◌, List, [], ◌∷◌, ◌++◌, codes, filter, map, slice_get, Option, None, Some}
+use Rattle.std.specs.Prelude.{ℕ, Bool, true, false, ◌&&◌, List, [], ◌∷◌, ◌++◌, codes, filter, flat_map, map, slice_get, Option, None, Some}
 use Rattle.std.specs.List.{last_or, list_any}
 use Rattle.std.specs.Option.{option_or, option_map_or}
 use Rattle.plain_values.specs.Name.{is_same_text}
+use Rattle.profiles.specs.declared.profile.Profile.{Profile}
+use Rattle.profiles.specs.declared.profile.Profile.TheVariants.{First, Second}
 use Rattle.aadl_syntax.specs.declared.error_model.Association.{Association}
+use Rattle.aadl_syntax.specs.declared.error_model.OtherTarget.{OtherTarget}
 use Rattle.fault_system.specs.declared.formula.EventInfo.{EventInfo}
 use Rattle.package_index.specs.Names.{is_same_name}
 use Rattle.component_extension.specs.declared.effective.Effective.{Effective}
@@ -35,13 +38,23 @@ abbrev pub is_distribution : List (List ℕ) → Bool
 is_distribution [] = false
 is_distribution (first ∷ rest) = is_distribution_behind first rest
 
+-- the names of a path that is more than names with single dots between them, as of `^lane1@fault` the names `lane1` and `fault`, if it has names
+abbrev pub other_names : OtherTarget → List (List (List ℕ))
+other_names other = option_map_or (λ names. names ∷ []) other.names []
+
+-- The targets of an association: by the first profile the paths that are names with single dots between them; by the second also the names of
+-- each other path that has names.
+abbrev pub targets_of : Profile → Association → List (List (List ℕ))
+targets_of First association = association.targets
+targets_of Second association = association.targets ++ flat_map other_names association.others
+
 -- whether an association gives rates, and these names are one of its targets
-abbrev pub fits : List (List ℕ) → Association → Bool
-fits names association = is_distribution association.name && list_any (λ target. is_same_name target names) association.targets
+abbrev pub fits : Profile → List (List ℕ) → Association → Bool
+fits profile names association = is_distribution association.name && list_any (λ target. is_same_name target names) (targets_of profile association)
 
 -- The last of these associations that fits.
-abbrev pub last_fitting : List (List ℕ) → List Association → Option Association
-last_fitting names associations = last_or None (filter (fits names) associations)
+abbrev pub last_fitting : Profile → List (List ℕ) → List Association → Option Association
+last_fitting profile names associations = last_or None (filter (fits profile names) associations)
 
 -- ---- a model
 
@@ -56,23 +69,23 @@ machine_associations (Some machine) = machine.item.associations
 
 -- The association that fits an event of the component to which a path leads: that of the outermost component on the way, from the
 -- one of this number on, that has one. Its target is what is left of the path, and then the event's key.
-abbrev pub fitting_along : Instance → Option ℕ → List (List ℕ) → List (List ℕ) → Option Association
-fitting_along instance None path key = None
-fitting_along instance (Some number) [] key = last_fitting key (clause_associations (effective_in instance number))
-fitting_along instance (Some number) (name ∷ path) key =
-    option_or (last_fitting (name ∷ path ++ key) (clause_associations (effective_in instance number)))
-    (fitting_along instance (component_below instance.components number (name ∷ [])) path key)
+abbrev pub fitting_along : Profile → Instance → Option ℕ → List (List ℕ) → List (List ℕ) → Option Association
+fitting_along profile instance None path key = None
+fitting_along profile instance (Some number) [] key = last_fitting profile key (clause_associations (effective_in instance number))
+fitting_along profile instance (Some number) (name ∷ path) key =
+    option_or (last_fitting profile (name ∷ path ++ key) (clause_associations (effective_in instance number)))
+    (fitting_along profile instance (component_below instance.components number (name ∷ [])) path key)
 
 -- the path of the component of a number
 abbrev pub path_in : Instance → ℕ → List (List ℕ)
 path_in instance number = option_map_or (λ component. component.path) (slice_get instance.components number) []
 
 -- The association that counts for an event: one that fits on the way from the root to its component, or else one of its machine.
-abbrev pub association_of : Instance → EventInfo → Option Association
-association_of instance event =
-    option_or (fitting_along instance (Some 0) (path_in instance event.owner) event.key)
-    (last_fitting event.key (machine_associations (machine_of instance.packages (effective_in instance event.owner))))
+abbrev pub association_of : Profile → Instance → EventInfo → Option Association
+association_of profile instance event =
+    option_or (fitting_along profile instance (Some 0) (path_in instance event.owner) event.key)
+    (last_fitting profile event.key (machine_associations (machine_of instance.packages (effective_in instance event.owner))))
 
 -- The rate of an event of a model.
-abbrev pub rate_in : Instance → EventInfo → Rate
-rate_in instance event = association_rate (association_of instance event)
+abbrev pub rate_in : Profile → Instance → EventInfo → Rate
+rate_in profile instance event = association_rate (association_of profile instance event)

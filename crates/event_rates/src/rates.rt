@@ -8,18 +8,25 @@ use aadl_syntax::{Association, Identifier};
 use fault_system::EventInfo;
 use instantiator::Instance;
 use plain_values::{List, Mem, Name, copied};
+use profiles::Profile;
 use property_reader::{Rate, rate_of};
 use std::alloc::Global;
 
 /// The rates of events of a model, in order (EMV2: `OccurrenceDistribution`).
 ///
 /// The association of the outermost component on the way to an event's own that has one for it counts, of these the last; where
-/// there is none, the last of the machine. An event that has none gets the conservative rate.
-pub fn rates_of(alloc: Global, instance: &Instance<'_, '_>, events: &[EventInfo]) -> Mem<List<Rate>>
-    ensures rates { IfOk result (λ rates. rates ≡ map (rate_in instance.now) events.now) }
+/// there is none, the last of the machine. An event that has none gets the conservative rate. By the second profile a target
+/// `^lane1@fault` is read as `lane1.fault`; by the first it is none.
+pub fn rates_of(
+    alloc: Global,
+    profile: Profile,
+    instance: &Instance<'_, '_>,
+    events: &[EventInfo],
+) -> Mem<List<Rate>>
+    ensures rates { IfOk result (λ rates. rates ≡ map (rate_in profile instance.now) events.now) }
     ensures numbers { IfOk result (λ rates. All (λ rate. IsNumber rate.text) rates) }
 {
-    let tables = Tables::of(alloc, instance)?;
+    let tables = Tables::of(alloc, profile, instance)?;
     let mut rates = List::new(alloc);
     for event in events {
         let rate = tables.rate_in(alloc, event)?;
@@ -31,7 +38,7 @@ pub fn rates_of(alloc: Global, instance: &Instance<'_, '_>, events: &[EventInfo]
 impl<'r> Tables<'r> {
     /// The rate of an event.
     fn rate_in(&self, alloc: Global, event: &EventInfo) -> Mem<Rate>
-        ensures rate { IfOk result (λ rate. rate ≡ rate_in self.now event.now) }
+        ensures rate { IfOk result (λ rate. rate ≡ rate_in self.now.profile self.now.instance event.now) }
         ensures number { IfOk result (λ rate. IsNumber rate.text) }
     {
         let names = names_of(alloc, self.path(event.owner), event.key.items())?;
@@ -40,8 +47,8 @@ impl<'r> Tables<'r> {
 
     /// The association that counts for an event, whose path and key these names are.
     fn association_of(&self, event: &EventInfo, names: &[Name]) -> Option<&'r Association>
-        requires { names.now ≡ path_in self.now event.now.owner ++ event.now.key }
-        ensures { option_copied result ≡ association_of self.now event.now }
+        requires { names.now ≡ path_in self.now.instance event.now.owner ++ event.now.key }
+        ensures { option_copied result ≡ association_of self.now.profile self.now.instance event.now }
     {
         match self.fitting_along(Some(0), self.path(event.owner), names) {
             Some(association) => Some(association),
@@ -57,7 +64,7 @@ impl<'r> Tables<'r> {
         path: &[&Identifier],
         names: &[Name],
     ) -> Option<&'r Association>
-        ensures { (key : List (List ℕ)) → names.now ≡ map (λ name. name.now) path.now ++ key → option_copied result ≡ fitting_along self.now component (map (λ name. name.now) path.now) key }
+        ensures { (key : List (List ℕ)) → names.now ≡ map (λ name. name.now) path.now ++ key → option_copied result ≡ fitting_along self.now.profile self.now.instance component (map (λ name. name.now) path.now) key }
     {
         let component = component?;
         if let Some(association) = self.of_clauses(component, names) {
@@ -71,7 +78,7 @@ impl<'r> Tables<'r> {
 
     /// The component of this name in a component.
     fn below(&self, component: u32, name: &Identifier) -> Option<u32>
-        ensures { result ≡ component_below self.now.components component (name.now ∷ []) }
+        ensures { result ≡ component_below self.now.instance.components component (name.now ∷ []) }
     {
         self.instance()
             .find_below(component, std::slice::from_ref(name))
@@ -79,7 +86,7 @@ impl<'r> Tables<'r> {
 
     /// The names of the path of a component.
     pub(crate) fn path(&self, component: u32) -> &'r [&'r Identifier]
-        ensures { map (λ name. name.now) result.now ≡ path_in self.now component }
+        ensures { map (λ name. name.now) result.now ≡ path_in self.now.instance component }
     {
         match self.instance().components().get(component as usize) {
             Some(component) => component.path.names(),

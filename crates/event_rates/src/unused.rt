@@ -1,8 +1,10 @@
 //! The rates that are said of no event.
 
-ghost use Rattle.std.specs.Prelude.{◌≡◌, ◌++◌, ◌∷◌, [], IfOk, OnOk, cond, filter, map, not, option_copied, unwrap_or};
+ghost use Rattle.std.specs.Prelude.{◌≡◌, ◌++◌, ◌∷◌, [], IfOk, OnOk, cond, filter, map, option_copied};
 ghost use Rattle.plain_values.specs.Numbered.{numbered_from};
-ghost use Rattle.event_rates.specs.Unused.{is_one_of, no_target, other_targets, rates_at, said_of_none, unused_among, unused_at, unused_in, unused_rates, unused_targets, whole_names};
+ghost use Rattle.profiles.specs.declared.profile.Profile.TheVariants.{Second};
+ghost use Rattle.event_rates.specs.Unused.{is_of_none, is_one_of, names_none, no_target, other_targets, other_text, rates_at, said_of_none, unused_among, unused_at, unused_in, unused_rates, unused_targets, whole_names};
+ghost use Rattle.event_rates.specs.inner.Listed.{associations_in};
 
 use crate::kinds::Tables;
 use crate::rates::names_of;
@@ -12,12 +14,14 @@ use fault_system::EventInfo;
 use instantiator::Instance;
 use package_index::Words;
 use plain_values::{List, Mem, Name, Spot, copied};
+use profiles::Profile;
 use std::alloc::Global;
 use std::collections::HashSet;
 use std::marker::Model;
 
 /// A target of an association of rates that names no event: the component whose clauses or whose machine has it, and its names, a path from
-/// the component and the key of an event. The spot is that of the association.
+/// the component and the key of an event; or the text of a path that is more than names with single dots between them, as `^lane1@fault`, as one
+/// name. The spot is that of the association.
 #[derive(Drop)]
 pub struct UnusedRate {
     pub component: u32,
@@ -79,15 +83,17 @@ impl<'n> EventNames<'n> {
 }
 
 /// The targets of associations of rates that name no event of a model, one component after the other: of its clauses, and then of its
-/// machine.
+/// machine. By the first profile a path that is more than names with single dots between them names none; by the second `^lane1@fault` names what
+/// `lane1.fault` names.
 pub fn unused_rates(
     alloc: Global,
+    profile: Profile,
     instance: &Instance<'_, '_>,
     events: &[EventInfo],
 ) -> Mem<List<UnusedRate>>
-    ensures { IfOk result (λ rates. rates ≡ unused_rates instance.now events.now) }
+    ensures { IfOk result (λ rates. rates ≡ unused_rates profile instance.now events.now) }
 {
-    let tables = Tables::of(alloc, instance)?;
+    let tables = Tables::of(alloc, profile, instance)?;
     let all = whole_names(alloc, &tables, events)?;
     let names = EventNames::of(alloc, all.items())?;
     all_unused(alloc, &tables, &names)
@@ -95,7 +101,7 @@ pub fn unused_rates(
 
 /// The whole names of events.
 fn whole_names(alloc: Global, tables: &Tables, events: &[EventInfo]) -> Mem<List<List<Name>>>
-    ensures { IfOk result (λ names. names ≡ whole_names tables.now events.now) }
+    ensures { IfOk result (λ names. names ≡ whole_names tables.now.instance events.now) }
 {
     let mut names = List::new(alloc);
     for event in events {
@@ -107,7 +113,7 @@ fn whole_names(alloc: Global, tables: &Tables, events: &[EventInfo]) -> Mem<List
 
 /// Those of all components.
 fn all_unused(alloc: Global, tables: &Tables, names: &EventNames) -> Mem<List<UnusedRate>>
-    ensures { IfOk result (λ rates. rates ≡ numbered_from (unused_at names.now tables.now) 0 tables.now.components) }
+    ensures { IfOk result (λ rates. rates ≡ numbered_from (unused_at tables.now.profile names.now tables.now.instance) 0 tables.now.instance.components) }
 {
     let mut rates = List::new(alloc);
     for number in 0..tables.instance().components().len() {
@@ -124,27 +130,28 @@ fn add_component(
     names: &EventNames,
     number: u32,
 ) -> Mem<()>
-    ensures { OnOk result (rates.new ≡ rates.old ++ unused_in names.now tables.now number) }
+    ensures { OnOk result (rates.new ≡ rates.old ++ unused_in tables.now.profile names.now tables.now.instance number) }
 {
-    let path = tables.path(number);
+    let (profile, path) = (tables.profile(), tables.path(number));
     let (clauses, machine) = (tables.clauses_of(number), tables.machine_of(number));
-    add_of(rates, alloc, names, number, path, clauses)?;
-    add_of(rates, alloc, names, number, path, machine)
+    add_of(rates, alloc, profile, names, number, path, clauses)?;
+    add_of(rates, alloc, profile, names, number, path, machine)
 }
 
 /// Adds those of a table, if there is one.
 fn add_of(
     rates: &mut List<UnusedRate>,
     alloc: Global,
+    profile: Profile,
     names: &EventNames,
     number: u32,
     path: &[&Identifier],
     table: Option<&AssociationTable>,
 ) -> Mem<()>
-    ensures { OnOk result (rates.new ≡ rates.old ++ unused_among names.now number (map (λ name. name.now) path.now) (unwrap_or (option_copied table.entry) [])) }
+    ensures { OnOk result (rates.new ≡ rates.old ++ unused_among profile names.now number (map (λ name. name.now) path.now) (associations_in (option_copied table.entry))) }
 {
     match table {
-        Some(table) => add_among(rates, alloc, names, number, path, table.list()),
+        Some(table) => add_among(rates, alloc, profile, names, number, path, table.list()),
         None => Ok(()),
     }
 }
@@ -153,15 +160,16 @@ fn add_of(
 fn add_among(
     rates: &mut List<UnusedRate>,
     alloc: Global,
+    profile: Profile,
     names: &EventNames,
     number: u32,
     path: &[&Identifier],
     associations: &[&Association],
 ) -> Mem<()>
-    ensures { OnOk result (rates.new ≡ rates.old ++ unused_among names.now number (map (λ name. name.now) path.now) (map (λ association. association.now) associations.now)) }
+    ensures { OnOk result (rates.new ≡ rates.old ++ unused_among profile names.now number (map (λ name. name.now) path.now) (map (λ association. association.now) associations.now)) }
 {
     for association in associations {
-        let targets = unused_targets(alloc, names, path, *association)?;
+        let targets = unused_targets(alloc, profile, names, path, *association)?;
         add_rates(rates, alloc, number, association.spot, targets.items())?;
     }
     Ok(())
@@ -191,43 +199,120 @@ fn add_rates(
 /// Those of an association, if it gives rates.
 fn unused_targets(
     alloc: Global,
+    profile: Profile,
     names: &EventNames,
     path: &[&Identifier],
     association: &Association,
 ) -> Mem<List<List<Name>>>
-    ensures { IfOk result (λ targets. targets ≡ unused_targets names.now (map (λ name. name.now) path.now) association.now) }
+    ensures { IfOk result (λ targets. targets ≡ unused_targets profile names.now (map (λ name. name.now) path.now) association.now) }
 {
     let mut targets = List::new(alloc);
     if is_distribution(association.name.items()) {
-        add_said(&mut targets, alloc, names, path, association)?;
+        add_said(&mut targets, alloc, profile, names, path, association)?;
     }
     Ok(targets)
 }
 
-/// Adds the targets of an association that name no event, what is no target, and a dash where there is none.
+/// Adds the targets of an association that name no event, its other paths that are said of none, and a dash where it has neither.
 fn add_said(
     targets: &mut List<List<Name>>,
     alloc: Global,
+    profile: Profile,
     names: &EventNames,
     path: &[&Identifier],
     association: &Association,
 ) -> Mem<()>
-    ensures { OnOk result (targets.new ≡ targets.old ++ said_of_none names.now (map (λ name. name.now) path.now) association.now) }
+    ensures { OnOk result (targets.new ≡ targets.old ++ said_of_none profile names.now (map (λ name. name.now) path.now) association.now) }
 {
     add_all(targets, alloc, names, path, association.targets.items())?;
-    add_others(targets, alloc, association.others.items())?;
+    add_others(
+        targets,
+        alloc,
+        profile,
+        names,
+        path,
+        association.others.items(),
+    )?;
     add_none(targets, alloc, association)
 }
 
-/// Adds what is no target.
-fn add_others(targets: &mut List<List<Name>>, alloc: Global, others: &[OtherTarget]) -> Mem<()>
-    ensures { OnOk result (targets.new ≡ targets.old ++ other_targets others.now) }
+/// Adds the texts of other paths that are said of no event.
+fn add_others(
+    targets: &mut List<List<Name>>,
+    alloc: Global,
+    profile: Profile,
+    names: &EventNames,
+    path: &[&Identifier],
+    others: &[OtherTarget],
+) -> Mem<()>
+    ensures { OnOk result (targets.new ≡ targets.old ++ other_targets profile names.now (map (λ name. name.now) path.now) others.now) }
 {
     for other in others {
-        let target = one_name(alloc, other.text.items())?;
-        targets.push(target)?;
+        add_other(targets, alloc, profile, names, path, other)?;
     }
     Ok(())
+}
+
+/// Adds the text of such a path, if it is said of no event.
+fn add_other(
+    targets: &mut List<List<Name>>,
+    alloc: Global,
+    profile: Profile,
+    names: &EventNames,
+    path: &[&Identifier],
+    other: &OtherTarget,
+) -> Mem<()>
+    ensures { OnOk result (targets.new ≡ targets.old ++ other_text profile names.now (map (λ name. name.now) path.now) other.now) }
+{
+    let is_told = is_of_none(alloc, profile, names, path, other)?;
+    let target = one_name(alloc, other.text.items())?;
+    targets.push_if(target, is_told)?;
+    Ok(())
+}
+
+/// Whether such a path is said of no event.
+fn is_of_none(
+    alloc: Global,
+    profile: Profile,
+    names: &EventNames,
+    path: &[&Identifier],
+    other: &OtherTarget,
+) -> Mem<bool>
+    ensures { IfOk result (λ is_told. is_told ≡ is_of_none profile names.now (map (λ name. name.now) path.now) other.now) }
+{
+    match profile {
+        Profile::First => Ok(true),
+        Profile::Second => has_no_event(alloc, names, path, other),
+    }
+}
+
+/// The same by the second profile.
+fn has_no_event(
+    alloc: Global,
+    names: &EventNames,
+    path: &[&Identifier],
+    other: &OtherTarget,
+) -> Mem<bool>
+    ensures { IfOk result (λ is_told. is_told ≡ is_of_none Second names.now (map (λ name. name.now) path.now) other.now) }
+{
+    match &other.names {
+        Some(own) => names_none(alloc, names, path, own),
+        None => Ok(true),
+    }
+}
+
+/// Whether names name no event, from the component of this path on.
+fn names_none(
+    alloc: Global,
+    names: &EventNames,
+    path: &[&Identifier],
+    target: &List<Identifier>,
+) -> Mem<bool>
+    ensures { IfOk result (λ is_told. is_told ≡ names_none names.now (map (λ name. name.now) path.now) target.now) }
+{
+    let own = names_in(alloc, target.items())?;
+    let whole = names_of(alloc, path, own.items())?;
+    Ok(!names.has(whole.items()))
 }
 
 /// Adds a dash, if an association applies to nothing.
@@ -257,7 +342,7 @@ fn add_all(
     path: &[&Identifier],
     all: &[List<Identifier>],
 ) -> Mem<()>
-    ensures { OnOk result (targets.new ≡ targets.old ++ filter (λ target. not (is_one_of names.now (map (λ name. name.now) path.now ++ target))) all.now) }
+    ensures { OnOk result (targets.new ≡ targets.old ++ filter (names_none names.now (map (λ name. name.now) path.now)) all.now) }
 {
     for target in all {
         add_target(targets, alloc, names, path, target.items())?;
@@ -273,7 +358,7 @@ fn add_target(
     path: &[&Identifier],
     target: &[Identifier],
 ) -> Mem<()>
-    ensures { OnOk result (targets.new ≡ targets.old ++ cond (not (is_one_of names.now (map (λ name. name.now) path.now ++ target.now))) (target.now ∷ []) []) }
+    ensures { OnOk result (targets.new ≡ targets.old ++ cond (names_none names.now (map (λ name. name.now) path.now) target.now) (target.now ∷ []) []) }
 {
     let own = names_in(alloc, target)?;
     let whole = names_of(alloc, path, own.items())?;

@@ -5,6 +5,6 @@ use Rattle.event_rates.proofs.rates.rates_of.Given as goal
 
 abbrev pub invariant-loop-event : goal.invariant-loop-event
 invariant-loop-event l = record {
-  rates : l.rates ≡ map (rate_in l.fn.instance) (take l.event-index l.events);
+  rates : l.rates ≡ map (rate_in l.fn.profile l.fn.instance) (take l.event-index l.events);
   numbers : All (λ rate. IsNumber rate.text) l.rates;
 }

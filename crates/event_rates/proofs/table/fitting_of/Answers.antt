@@ -15,10 +15,10 @@ loop-association-preserved c =
     let one = c.association-item.result in
     let now = λ (association : Bor Association). association.now in
     let more = ap (map now) (front-more list k one c.loop-association-test.true c.association-item.is) ∙ map-append now (take k list) (one ∷ []) in
-    subst (λ xs. KnowsFitting xs (get same_words c.add_association.new.fitting)) (sym more)
-    (knows-more (map now (take k list)) one.now (get same_words c.loop-association.fitting) (get same_words c.add_association.new.fitting) c.loop-association.invariant c.in_ok-add_association.ensures)
+    subst (λ xs. KnowsFitting c.args.profile xs (get same_words c.add_association.new.fitting)) (sym more)
+    (knows-more c.args.profile (map now (take k list)) one.now (get same_words c.loop-association.fitting) (get same_words c.add_association.new.fitting) c.loop-association.invariant c.in_ok-add_association.ensures)
 
 pub returns : goal.returns
 returns c =
     let now = λ (association : Bor Association). association.now in
-    subst (λ xs. KnowsFitting (map now xs) (get same_words c.loop-association.fitting)) (take_all c.loop-association.association-index c.args.list.now c.loop-association-test.false) c.loop-association.invariant
+    subst (λ xs. KnowsFitting c.args.profile (map now xs) (get same_words c.loop-association.fitting)) (take_all c.loop-association.association-index c.args.list.now c.loop-association-test.false) c.loop-association.invariant

@@ -5,4 +5,4 @@ use Rattle.event_rates.specs.inner.Fitting.{KnowsFitting}
 use Rattle.event_rates.proofs.table.fitting_of.Given as goal
 
 abbrev pub invariant-loop-association : goal.invariant-loop-association
-invariant-loop-association l = KnowsFitting (map (λ association. association.now) (take l.association-index l.list)) (get same_words l.fitting)
+invariant-loop-association l = KnowsFitting l.profile (map (λ association. association.now) (take l.association-index l.list)) (get same_words l.fitting)

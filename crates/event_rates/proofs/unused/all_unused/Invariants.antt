@@ -4,4 +4,4 @@ use Rattle.event_rates.specs.Unused.{unused_at}
 use Rattle.event_rates.proofs.unused.all_unused.Given as goal
 
 abbrev pub invariant-loop-number : goal.invariant-loop-number
-invariant-loop-number l = l.rates ≡ numbered_from (unused_at l.names l.tables) 0 (take l.number l.tables.components)
+invariant-loop-number l = l.rates ≡ numbered_from (unused_at l.tables.profile l.names l.tables.instance) 0 (take l.number l.tables.instance.components)

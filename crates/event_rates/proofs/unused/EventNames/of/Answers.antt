@@ -1,9 +1,6 @@
-use Rattle.std.proofs.Common.{subst}
 use Rattle.std.specs.HashSet.{contains}
-use Rattle.std.proofs.lemmas.List.{take_all}
 use Rattle.package_index.specs.declared.words.Words.TheVariants.{Names}
 use Rattle.package_index.specs.inner.Tables.{same_words}
-use Rattle.event_rates.specs.inner.Known.{KnowsNames}
 use Rattle.event_rates.proofs.UnusedLaws.{names-more}
 use Rattle.event_rates.proofs.unused.EventNames.of.Goals as goal
 
