@@ -5,7 +5,7 @@
 
 Of each file (examples/*.aadl, where none is named), each system implementation that the tool accepts as a root, and each target that `targets`
 lists with a number: the Open-PSA text with written and with merged gates passes `scram --validate`, and each of SCRAM's three engines gives
-the sets of `cuts`; the picture of both is read by `dot -Tsvg`. Where that is not so, a line says `WRONG`, and the exit status is 1.
+the sets of `cuts`; `dot` draws the picture of both as SVG and as PDF. Where that is not so, a line says `WRONG`, and the exit status is 1.
 SCRAM 0.16.2 itself gives other sets than the text has for some counting gates whose inputs have events in common. Where one has an event twice,
 through a gate of one input, the sets are not held against `cuts`, and the last line says how many such texts there are.
 """
@@ -87,9 +87,10 @@ def main():
                             if sets_of_scram(words.scram, engine, place, names) != wanted:
                                 faults.append(f"scram {engine} has other sets")
                         picture = run(words.tool, "tree", root, target, file, "--format", "dot", "--gates", gates).stdout
-                        drawn = subprocess.run([words.dot, "-Tsvg"], input=picture, capture_output=True, text=True, encoding="utf-8")
-                        if drawn.returncode != 0 or drawn.stderr:
-                            faults.append("dot: " + drawn.stderr.strip())
+                        for form in ["-Tsvg", "-Tpdf"]:
+                            drawn = subprocess.run([words.dot, form], input=picture.encode(), capture_output=True)
+                            if drawn.returncode != 0 or drawn.stderr or not drawn.stdout:
+                                faults.append(f"dot {form}: {drawn.stderr.decode().strip()}")
                         for fault in faults:
                             wrong += 1
                             print(f"WRONG: {file} {root} {target} --gates {gates}: {fault}")

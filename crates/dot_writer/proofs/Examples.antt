@@ -1,5 +1,5 @@
 -- Pictures of small trees, worked.
-use Rattle.std.proofs.Common.{ℕ, ◌≡◌, List, [], ◌∷◌, ◌++◌, codes, map, refl}
+use Rattle.std.proofs.Common.{ℕ, ◌≡◌, List, [], ◌∷◌, ◌++◌, codes, map, Some, false, refl}
 use Rattle.std.specs.Fmt.{digits}
 use Rattle.fault_system.specs.Systems.{System}
 use Rattle.fault_system.specs.declared.formula.Formula.TheVariants.{True}
@@ -14,8 +14,9 @@ use Rattle.round_gates.specs.declared.tree.Input.TheVariants as inputs
 use Rattle.round_gates.specs.declared.tree.Tree.{Tree}
 use Rattle.dot_writer.specs.Shown.{shown}
 use Rattle.dot_writer.specs.Words.{words_of}
-use Rattle.dot_writer.specs.Picture.{boxes_text}
-use Rattle.dot_writer.specs.TreePicture.{boxes_of, sheet_of}
+use Rattle.dot_writer.specs.declared.usages.Usage.TheVariants.{Unused, Once, Shared}
+use Rattle.dot_writer.specs.Picture.{BoxArc, TransferArc, Box, boxes_text}
+use Rattle.dot_writer.specs.TreePicture.{boxes_of, head, heads_of, sheet_of}
 
 -- ---- words
 
@@ -97,3 +98,22 @@ tree_boxes : boxes_text 0 (boxes_of (sheet_of machine tree rates (record { targe
     ++ codes "\te4_3 [tooltip=\"root/in:q{l::t}\",rate=\"prob=1\",shape=house,label=<<b>system </b><br/>gets q<br/>l::t<br/><font point-size=\"8\">no rate</font>>]; g4 -> e4_3;\n")))))))))))
 unfolding digits
 tree_boxes = refl
+
+-- ---- parts
+
+-- the top, a gate below it, one that several use, and two below that
+heads : heads_of (Unused ∷ Once 0 ∷ Shared 0 ∷ Once 2 ∷ Once 3 ∷ []) ≡ 0 ∷ 0 ∷ 2 ∷ 2 ∷ 2 ∷ []
+unfolding head
+heads = refl
+
+abbrev part_box : Box
+part_box = record { part = Some 1; name = codes "G@1.0"; words = Some (codes "G"); kind = Or; shared = false; arcs = TransferArc 4 (codes "H@1.0") ∷ BoxArc 2 ∷ [] }
+
+part_text : boxes_text 3 (part_box ∷ []) ≡
+    codes "subgraph cluster_2 {label=\"\";color=gray;\n"
+    ++ (codes "g4 [tooltip=\"G@1.0\",kind=\"or\",label=<<table border=\"0\" cellborder=\"1\" cellspacing=\"0\" cellpadding=\"4\"><tr><td>G</td></tr><tr><td bgcolor=\"#eeeeee\">&ge;1</td></tr></table>>];\n"
+    ++ (codes "\tt4_1 [tooltip=\"H@1.0\",shape=triangle,height=0.45,width=0.6,fixedsize=true,fontsize=9,label=\"T5\"]; g4 -> t4_1;\n"
+    ++ (codes "\tg4 -> g3;\n"
+    ++ codes "}\n")))
+unfolding digits
+part_text = refl

@@ -1,12 +1,12 @@
 -- What is left of a text, line by line.
-use Rattle.std.proofs.Common.{ℕ, zero, suc, ◌+◌, ◌≡◌, List, [], ◌∷◌, ◌++◌, map, drop, slice_get, Some, None, ap, ◌∙◌, sym, subst, refl, arith}
+use Rattle.std.proofs.Common.{ℕ, zero, suc, ◌+◌, ◌≡◌, List, [], ◌∷◌, ◌++◌, map, drop, slice_get, Some, None, ap, ◌∙◌, sym, subst, refl, arith, append_assoc}
 use Rattle.std.specs.Option.{option_map_or}
 use Rattle.round_gates.specs.declared.tree.Gate.{Gate}
 use Rattle.round_gates.specs.declared.tree.Input.{Input}
 use Rattle.dot_writer.specs.declared.sheet.Sheet.{Sheet}
-use Rattle.dot_writer.specs.Picture.{arc_line, arc_lines, box_line, boxes_text}
+use Rattle.dot_writer.specs.Picture.{arc_line, arc_lines, box_start, boxes_text}
 use Rattle.dot_writer.specs.TreePicture.{arc_of, box_of, boxes_of, inputs_at}
-use Rattle.dot_writer.specs.inner.DotText.{arcs_from, boxes_from}
+use Rattle.dot_writer.specs.inner.DotText.{arcs_from, below_from, boxes_from, end_of}
 
 drop-more : {X : Type 0} (xs : List X) (n : ℕ) (x : X) → slice_get xs n ≡ Some x → drop n xs ≡ x ∷ drop (suc n) xs
 drop-more [] n x at = cc
@@ -22,18 +22,28 @@ drop-end [] (suc n) at = refl
 drop-end (y ∷ ys) zero at = cc
 drop-end (y ∷ ys) (suc n) at = drop-end ys n at
 
-pub arcs_here : (sheet : Sheet) (position place : ℕ) (input : Input) → slice_get (inputs_at sheet.tree.gates position) place ≡ Some input
+arcs_here : (sheet : Sheet) (position place : ℕ) (input : Input) → slice_get (inputs_at sheet.tree.gates position) place ≡ Some input
     → arcs_from sheet position place ≡ arc_line position place (arc_of sheet position input) ++ arcs_from sheet position (place + 1)
 arcs_here sheet position place input at = ap (λ inputs. arc_lines position place (map (arc_of sheet position) inputs)) (drop-here (inputs_at sheet.tree.gates position) place input at)
 
-pub arcs_end : (sheet : Sheet) (position place : ℕ) → slice_get (inputs_at sheet.tree.gates position) place ≡ None → arcs_from sheet position place ≡ []
-arcs_end sheet position place at = ap (λ inputs. arc_lines position place (map (arc_of sheet position) inputs)) (drop-end (inputs_at sheet.tree.gates position) place at)
+pub below_here : (sheet : Sheet) (position place : ℕ) (input : Input) → slice_get (inputs_at sheet.tree.gates position) place ≡ Some input
+    → below_from sheet position place ≡ arc_line position place (arc_of sheet position input) ++ below_from sheet position (place + 1)
+below_here sheet position place input at =
+    ap (λ t. t ++ end_of sheet position) (arcs_here sheet position place input at)
+    ∙ append_assoc (arc_line position place (arc_of sheet position input)) (arcs_from sheet position (place + 1)) (end_of sheet position)
+
+pub below_end : (sheet : Sheet) (position place : ℕ) → slice_get (inputs_at sheet.tree.gates position) place ≡ None → below_from sheet position place ≡ end_of sheet position
+below_end sheet position place at =
+    ap (λ inputs. arc_lines position place (map (arc_of sheet position) inputs) ++ end_of sheet position) (drop-end (inputs_at sheet.tree.gates position) place at)
 
 pub boxes_here : (sheet : Sheet) (position : ℕ) (gate : Gate) → slice_get sheet.tree.gates position ≡ Some gate
-    → boxes_from sheet position ≡ box_line position (box_of sheet position gate) ++ (arcs_from sheet position 0 ++ boxes_from sheet (position + 1))
+    → boxes_from sheet position ≡ box_start position (box_of sheet position gate) ++ (below_from sheet position 0 ++ boxes_from sheet (position + 1))
 boxes_here sheet position gate at =
+    let start = box_start position (box_of sheet position gate) in
+    let later = end_of sheet position ++ boxes_from sheet (position + 1) in
     ap (λ gates. boxes_text position (boxes_of sheet position gates)) (drop-here sheet.tree.gates position gate at)
-    ∙ ap (λ found. box_line position (box_of sheet position gate) ++ (arc_lines position 0 (map (arc_of sheet position) (option_map_or (λ g. g.inputs) found [])) ++ boxes_from sheet (position + 1))) (sym at)
+    ∙ ap (λ found. start ++ (arc_lines position 0 (map (arc_of sheet position) (option_map_or (λ g. g.inputs) found [])) ++ later)) (sym at)
+    ∙ ap (λ t. start ++ t) (sym (append_assoc (arcs_from sheet position 0) (end_of sheet position) (boxes_from sheet (position + 1))))
 
 pub boxes_end : (sheet : Sheet) (position : ℕ) → slice_get sheet.tree.gates position ≡ None → boxes_from sheet position ≡ []
 boxes_end sheet position at = ap (λ gates. boxes_text position (boxes_of sheet position gates)) (drop-end sheet.tree.gates position at)

@@ -1,4 +1,5 @@
 pub mod Joined
+pub mod Heads
 pub mod Left
 pub mod Noted
 pub mod Reading

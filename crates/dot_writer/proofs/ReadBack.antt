@@ -1,5 +1,5 @@
 -- A text tells of one tree at most.
-use Rattle.std.proofs.Common.{ℕ, zero, suc, ◌+◌, ◌≡◌, ◌<◌, ◌^◌, Bool, true, false, List, [], ◌∷◌, ◌++◌, codes, decimal, flat_map, map, get_or, None, Some, ap, ◌∙◌, sym, refl, arith, append_assoc}
+use Rattle.std.proofs.Common.{ℕ, zero, suc, ◌+◌, ◌≡◌, ◌<◌, ◌^◌, Bool, true, false, List, [], ◌∷◌, ◌++◌, codes, decimal, flat_map, map, get_or, None, Some, ap, ◌∙◌, sym, refl, arith, append_assoc, Option}
 use Rattle.std.specs.Bool.{if◌then◌else◌}
 use Rattle.std.specs.List.{AllByRecursion}
 use Rattle.std.proofs.lemmas.List.{append_cancel_left}
@@ -20,11 +20,11 @@ use Rattle.galileo_writer.proofs.Bytes.{cut-first}
 use Rattle.dot_writer.specs.declared.sheet.Sheet.{Sheet}
 use Rattle.dot_writer.specs.declared.sheet.Title.{Title}
 use Rattle.dot_writer.specs.Shown.{shown}
-use Rattle.dot_writer.specs.Picture.{Arc, EventArc, BoxArc, TransferArc, Box, arc_line, arc_lines, box_line, box_look, boxes_text, edge_line, event_form, event_line, event_look, head_text, kind_told, kind_word, leaf, leaf_edge, leaf_head, legend_line, number, rate_told, shape, style_text, symbols_text, transfer_line, transfer_look}
-use Rattle.dot_writer.specs.TreePicture.{arc_of, boxes_of, dot_text, is_below, sheet_of, usage_at}
+use Rattle.dot_writer.specs.Picture.{Arc, EventArc, BoxArc, TransferArc, Box, arc_line, arc_lines, box_line, box_look, box_start, boxes_text, edge_line, event_form, event_line, event_look, drawn_text, head_text, kind_told, kind_word, leaf, leaf_edge, leaf_head, legend_line, number, pack_text, part_end, part_line, rate_told, shape, style_text, symbols_text, transfer_line, transfer_look}
+use Rattle.dot_writer.specs.TreePicture.{arc_of, boxes_of, dot_text, is_below, is_parted, sheet_of, usage_at}
 use Rattle.dot_writer.specs.inner.ReadBack.{IsByte, IsPlainInput, IsPlainGate, IsShortInput, IsTellable, ToldInput, told_gate, told_input, tree_told}
 use Rattle.dot_writer.proofs.Labels.{legend-lacks, look-lacks}
-use Rattle.dot_writer.proofs.Reading.{Lacks, apart, lacks-both, lacks-text, no-digit, quote-no-digit, read-decimal, read-shown, rest-same}
+use Rattle.dot_writer.proofs.Reading.{Lacks, apart, lacks-both, lacks-decimal, lacks-text, no-digit, quote-no-digit, read-decimal, read-shown, rest-same}
 
 -- ---- what is below a box
 
@@ -194,48 +194,115 @@ read-line n x y r s f g e =
     let rest = cut-first 10 (box_look n x ++ codes "];") (box_look n y ++ codes "];") r s (look x) (look y) kind.1 in
     (name.0, kind.0, rest.1)
 
-boxes-no-arc : (n : ℕ) (boxes : List Box) → NoArc (boxes_text n boxes ++ codes "}\n")
-boxes-no-arc n [] t e = apart 125 9 _ _ (λ h. omega arith) e
-boxes-no-arc n (box ∷ boxes) t e = apart 103 9 _ _ (λ h. omega arith) e
+-- ---- parts
+
+-- the line before a box, without its line feed
+abbrev part_front : ℕ → List ℕ
+part_front head = codes "subgraph cluster_" ++ (number head ++ codes " {label=\"\";color=gray;")
+
+front-lacks : (head : ℕ) → Lacks (part_front head)
+front-lacks head =
+    lacks-both (codes "subgraph cluster_") _ (lacks-text (codes "subgraph cluster_") refl)
+    (lacks-both (number head) (codes " {label=\"\";color=gray;") (lacks-decimal (head + 1)) (lacks-text (codes " {label=\"\";color=gray;") refl))
+
+part-open : (head : ℕ) (t : List ℕ) → part_line (Some head) ++ t ≡ part_front head ++ 10 ∷ t
+part-open head t =
+    let last = codes " {label=\"\";color=gray;" in
+    append_assoc (codes "subgraph cluster_") (number head ++ (last ++ 10 ∷ [])) t
+    ∙ ap (λ u. codes "subgraph cluster_" ++ u) (append_assoc (number head) (last ++ 10 ∷ []) t ∙ ap (λ u. number head ++ u) (append_assoc last (10 ∷ []) t))
+    ∙ sym (append_assoc (codes "subgraph cluster_") (number head ++ last) (10 ∷ t) ∙ ap (λ u. codes "subgraph cluster_" ++ u) (append_assoc (number head) last (10 ∷ t)))
+
+-- a box with what stands before it, and whether something stands behind it
+read-start : (n : ℕ) (x y : Box) (r s : List ℕ) → IsPlainBox x → IsPlainBox y → box_start n x ++ r ≡ box_start n y ++ s → (part_end x.part ≡ part_end y.part) × (x.name ≡ y.name) × (x.kind ≡ y.kind) × (r ≡ s)
+read-start n x y r s f g e = by x.part y.part e
+  where
+    by : (p q : Option ℕ) → (part_line p ++ box_line n x) ++ r ≡ (part_line q ++ box_line n y) ++ s → (part_end p ≡ part_end q) × (x.name ≡ y.name) × (x.kind ≡ y.kind) × (r ≡ s)
+    by None None h = let line = read-line n x y r s f g h in (refl, line.0, line.1, line.2)
+    by None (Some b) h = absurd (apart 103 115 _ _ (λ k. omega arith) h)
+    by (Some a) None h = absurd (apart 115 103 _ _ (λ k. omega arith) h)
+    by (Some a) (Some b) h =
+        let parts = sym (opened a x r) ∙ h ∙ opened b y s in
+        let cut = cut-first 10 (part_front a) (part_front b) (box_line n x ++ r) (box_line n y ++ s) (front-lacks a) (front-lacks b) parts in
+        let line = read-line n x y r s f g cut.1 in
+        (refl, line.0, line.1, line.2)
+      where
+        opened : (head : ℕ) (box : Box) (t : List ℕ) → (part_line (Some head) ++ box_line n box) ++ t ≡ part_front head ++ 10 ∷ (box_line n box ++ t)
+        opened head box t = append_assoc (part_line (Some head)) (box_line n box) t ∙ part-open head (box_line n box ++ t)
+
+-- ---- all boxes
+
+-- what stands behind what is below a box: the end of its part, or the next box, or the last line
+boxes-no-arc : (n : ℕ) (part : Option ℕ) (boxes : List Box) → NoArc (part_end part ++ (boxes_text n boxes ++ codes "}\n"))
+boxes-no-arc n (Some head) boxes t e = apart 125 9 _ _ (λ h. omega arith) e
+boxes-no-arc n None [] t e = apart 125 9 _ _ (λ h. omega arith) e
+boxes-no-arc n None (box ∷ boxes) t e = by box.part e
+  where
+    later : List ℕ
+    later = arc_lines n 0 box.arcs ++ (part_end box.part ++ boxes_text (n + 1) boxes)
+
+    by : (p : Option ℕ) → ((part_line p ++ box_line n box) ++ later) ++ codes "}\n" ≡ 9 ∷ t → ⊥
+    by None h = apart 103 9 _ _ (λ k. omega arith) h
+    by (Some head) h = apart 115 9 _ _ (λ k. omega arith) h
+
+-- a box is not the last line
+box-not-last : (n : ℕ) (box : Box) (boxes : List Box) → codes "}\n" ≡ boxes_text n (box ∷ boxes) ++ codes "}\n" → ⊥
+box-not-last n box boxes e = by box.part e
+  where
+    later : List ℕ
+    later = arc_lines n 0 box.arcs ++ (part_end box.part ++ boxes_text (n + 1) boxes)
+
+    by : (p : Option ℕ) → codes "}\n" ≡ ((part_line p ++ box_line n box) ++ later) ++ codes "}\n" → ⊥
+    by None h = apart 125 103 _ _ (λ k. omega arith) h
+    by (Some head) h = apart 125 115 _ _ (λ k. omega arith) h
 
 read-boxes : (n : ℕ) (xs ys : List Box) → AllByRecursion IsPlainBox xs → AllByRecursion IsPlainBox ys → boxes_text n xs ++ codes "}\n" ≡ boxes_text n ys ++ codes "}\n" → map read_box xs ≡ map read_box ys
 read-boxes n [] [] f g e = refl
-read-boxes n [] (y ∷ ys) f g e = absurd (apart 125 103 _ _ (λ h. omega arith) e)
-read-boxes n (x ∷ xs) [] f g e = absurd (apart 103 125 _ _ (λ h. omega arith) e)
+read-boxes n [] (y ∷ ys) f g e = absurd (box-not-last n y ys e)
+read-boxes n (x ∷ xs) [] f g e = absurd (box-not-last n x xs (sym e))
 read-boxes n (x ∷ xs) (y ∷ ys) f g e =
     let parts = sym (more x xs) ∙ e ∙ more y ys in
-    let line = read-line n x y _ _ f.0 g.0 parts in
-    let arcs = read-arcs n 0 x.arcs y.arcs _ _ f.0.2 g.0.2 (boxes-no-arc (n + 1) xs) (boxes-no-arc (n + 1) ys) line.2 in
-    let rest = read-boxes (n + 1) xs ys f.1 g.1 arcs.1 in
-    (λ i. record { name = line.0 i; kind = line.1 i; arcs = arcs.0 i } ∷ rest i)
+    let start = read-start n x y _ _ f.0 g.0 parts in
+    let arcs = read-arcs n 0 x.arcs y.arcs _ _ f.0.2 g.0.2 (boxes-no-arc (n + 1) x.part xs) (boxes-no-arc (n + 1) y.part ys) start.3 in
+    let ended = append_cancel_left (part_end y.part) _ _ (ap (λ t. t ++ (boxes_text (n + 1) xs ++ codes "}\n")) (sym start.0) ∙ arcs.1) in
+    let rest = read-boxes (n + 1) xs ys f.1 g.1 ended in
+    (λ i. record { name = start.1 i; kind = start.2 i; arcs = arcs.0 i } ∷ rest i)
   where
-    more : (box : Box) (boxes : List Box) → boxes_text n (box ∷ boxes) ++ codes "}\n" ≡ box_line n box ++ (arc_lines n 0 box.arcs ++ (boxes_text (n + 1) boxes ++ codes "}\n"))
+    more : (box : Box) (boxes : List Box) → boxes_text n (box ∷ boxes) ++ codes "}\n" ≡ box_start n box ++ (arc_lines n 0 box.arcs ++ (part_end box.part ++ (boxes_text (n + 1) boxes ++ codes "}\n")))
     more box boxes =
-        append_assoc (box_line n box) (arc_lines n 0 box.arcs ++ boxes_text (n + 1) boxes) (codes "}\n")
-        ∙ ap (λ u. box_line n box ++ u) (append_assoc (arc_lines n 0 box.arcs) (boxes_text (n + 1) boxes) (codes "}\n"))
+        let arcs = arc_lines n 0 box.arcs in
+        append_assoc (box_start n box) (arcs ++ (part_end box.part ++ boxes_text (n + 1) boxes)) (codes "}\n")
+        ∙ ap (λ u. box_start n box ++ u) (append_assoc arcs (part_end box.part ++ boxes_text (n + 1) boxes) (codes "}\n")
+        ∙ ap (λ u. arcs ++ u) (append_assoc (part_end box.part) (boxes_text (n + 1) boxes) (codes "}\n")))
 
 -- ---- the head
 
-read-text : (legend heading : List (List ℕ)) (r s : List ℕ) → head_text legend ++ r ≡ head_text heading ++ s → r ≡ s
-read-text legend heading r s e =
-    let parts = sym (head-parts legend r) ∙ e ∙ head-parts heading s in
-    let told = append_cancel_left symbols_text _ _ (append_cancel_left style_text _ _ parts) in
+read-text : (one other : Bool) (legend heading : List (List ℕ)) (r s : List ℕ) → head_text one legend ++ r ≡ head_text other heading ++ s → r ≡ s
+read-text one other legend heading r s e =
+    let parts = sym (head-parts one legend r) ∙ e ∙ head-parts other heading s in
+    let told = packed one other (append_cancel_left style_text _ _ parts) in
     (cut-first 10 (flat_map legend_line legend ++ codes ">;") (flat_map legend_line heading ++ codes ">;") r s (lacks legend) (lacks heading) told).1
   where
     lacks : (lines : List (List ℕ)) → Lacks (flat_map legend_line lines ++ codes ">;")
     lacks lines = lacks-both (flat_map legend_line lines) (codes ">;") (legend-lacks lines) (lacks-text (codes ">;") refl)
 
-    head-parts : (lines : List (List ℕ)) (t : List ℕ) → head_text lines ++ t ≡ style_text ++ (symbols_text ++ ((flat_map legend_line lines ++ codes ">;") ++ 10 ∷ t))
-    head-parts lines t =
-        append_assoc style_text (symbols_text ++ (flat_map legend_line lines ++ codes ">;\n")) t
-        ∙ ap (λ u. style_text ++ u) (append_assoc symbols_text (flat_map legend_line lines ++ codes ">;\n") t
+    head-parts : (parted : Bool) (lines : List (List ℕ)) (t : List ℕ) → head_text parted lines ++ t ≡ style_text ++ (pack_text parted ++ (symbols_text ++ ((flat_map legend_line lines ++ codes ">;") ++ 10 ∷ t)))
+    head-parts parted lines t =
+        append_assoc (drawn_text parted) (symbols_text ++ (flat_map legend_line lines ++ codes ">;\n")) t
+        ∙ append_assoc style_text (pack_text parted) ((symbols_text ++ (flat_map legend_line lines ++ codes ">;\n")) ++ t)
+        ∙ ap (λ u. style_text ++ (pack_text parted ++ u)) (append_assoc symbols_text (flat_map legend_line lines ++ codes ">;\n") t
         ∙ ap (λ u. symbols_text ++ u) (append_assoc (flat_map legend_line lines) (codes ">;\n") t ∙ sym (append_assoc (flat_map legend_line lines) (codes ">;") (10 ∷ t))))
+
+    packed : (p q : Bool) {t u : List ℕ} → pack_text p ++ (symbols_text ++ t) ≡ pack_text q ++ (symbols_text ++ u) → t ≡ u
+    packed false false h = append_cancel_left symbols_text _ _ h
+    packed false true h = absurd (apart 108 112 _ _ (λ k. omega arith) h)
+    packed true false h = absurd (apart 112 108 _ _ (λ k. omega arith) h)
+    packed true true h = append_cancel_left symbols_text _ _ (append_cancel_left (pack_text true) _ _ h)
 
 -- ---- the tree
 
 plain-arc : (sheet : Sheet) (n : ℕ) (input : Input) → IsShortInput input → IsPlainInput (told_input sheet.system sheet.rates sheet.tree.gates input) → IsPlainArc (arc_of sheet n input)
 plain-arc sheet n (inputs.Event number) short plain = plain
-plain-arc sheet n (inputs.Gate number) short plain = by (is_below n (usage_at sheet.usages number))
+plain-arc sheet n (inputs.Gate number) short plain = by (is_below (is_parted sheet.tree.gates) n (usage_at sheet.usages number))
   where
     by : (b : Bool) → IsPlainArc (if b then BoxArc number else TransferArc number (name_at sheet.system sheet.tree.gates number))
     by true = short
@@ -284,10 +351,10 @@ module _ (a b : Sheet) (names : (n : ℕ) → name_at a.system a.tree.gates n �
 
   arc-told : (n : ℕ) (x y : Input) → arc_of a n x ≡ arc_of b n y → told_a x ≡ told_b y
   arc-told n (inputs.Event m) (inputs.Event k) e = let both = event-told _ _ _ _ e in (λ i. record { name = both.0 i; rate = Some (both.1 i) })
-  arc-told n (inputs.Event m) (inputs.Gate k) e = absurd (event-or-gate _ _ k (is_below n (usage_at b.usages k)) _ e)
-  arc-told n (inputs.Gate m) (inputs.Event k) e = absurd (event-or-gate _ _ m (is_below n (usage_at a.usages m)) _ (sym e))
+  arc-told n (inputs.Event m) (inputs.Gate k) e = absurd (event-or-gate _ _ k (is_below (is_parted b.tree.gates) n (usage_at b.usages k)) _ e)
+  arc-told n (inputs.Gate m) (inputs.Event k) e = absurd (event-or-gate _ _ m (is_below (is_parted a.tree.gates) n (usage_at a.usages m)) _ (sym e))
   arc-told n (inputs.Gate m) (inputs.Gate k) e =
-      let same = gate-told m k (is_below n (usage_at a.usages m)) (is_below n (usage_at b.usages k)) _ _ e in
+      let same = gate-told m k (is_below (is_parted a.tree.gates) n (usage_at a.usages m)) (is_below (is_parted b.tree.gates) n (usage_at b.usages k)) _ _ e in
       let named = names m ∙ ap (name_at b.system b.tree.gates) same in
       (λ i. record { name = named i; rate = None })
 
@@ -326,6 +393,6 @@ pub one-tree : (one other : System) (first second : Tree) (rates more : List Rat
 one-tree one other first second rates more title heading f g e =
     let a = sheet_of one first rates title in
     let b = sheet_of other second more heading in
-    let boxes = read-boxes 0 (boxes_of a 0 first.gates) (boxes_of b 0 second.gates) (plain-boxes a 0 first.gates f.short f.plain) (plain-boxes b 0 second.gates g.short g.plain) (read-text title.legend heading.legend _ _ e) in
+    let boxes = read-boxes 0 (boxes_of a 0 first.gates) (boxes_of b 0 second.gates) (plain-boxes a 0 first.gates f.short f.plain) (plain-boxes b 0 second.gates g.short g.plain) (read-text (is_parted first.gates) (is_parted second.gates) title.legend heading.legend _ _ e) in
     let named = sym (box-names a 0 first.gates) ∙ ap (map (λ box. box.name)) boxes ∙ box-names b 0 second.gates in
     boxes-told a b (λ n. name-at one first.gates n ∙ ap (λ all. get_or all n []) named ∙ sym (name-at other second.gates n)) 0 first.gates second.gates boxes

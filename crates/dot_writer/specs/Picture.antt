@@ -17,17 +17,20 @@ pub data Arc : Type 0 where
   BoxArc : ℕ → Arc
   TransferArc : ℕ → List ℕ → Arc
 
--- the box of a gate: its full name, the name of which its words are made, where it has words, its kind, whether transfers lead to
--- it, and what is below it
+-- the box of a gate: in a picture of several parts the box at the head of the one in which it stands, which the top and what is
+-- drawn below it do not; its full name, the name of which its words are made, where it has words, its kind, whether transfers lead
+-- to it, and what is below it
 pub record Box : Type 0 where
+  pub part : Option ℕ
   pub name : List ℕ
   pub words : Option (List ℕ)
   pub kind : GateKind
   pub shared : Bool
   pub arcs : List Arc
 
--- a picture: the lines of its legend, and its boxes by position
+-- a picture: whether it is of several parts, the lines of its legend, and its boxes by position
 pub record Picture : Type 0 where
+  pub parted : Bool
   pub legend : List (List ℕ)
   pub boxes : List Box
 
@@ -104,6 +107,23 @@ box_look position box =
 abbrev pub box_line : ℕ → Box → List ℕ
 box_line position box = codes "g" ++ (number position ++ (tooltip box.name ++ (kind_told box.kind ++ (box_look position box ++ codes "];\n"))))
 
+-- ---- parts
+
+-- the line before a box that stands in a part: the part is the cluster with the number of the box at its head; all that stand
+-- between the braces of one cluster are drawn together, in a frame
+abbrev pub part_line : Option ℕ → List ℕ
+part_line None = []
+part_line (Some head) = codes "subgraph cluster_" ++ (number head ++ codes " {label=\"\";color=gray;\n")
+
+-- the line behind it and what is below it
+abbrev pub part_end : Option ℕ → List ℕ
+part_end None = []
+part_end (Some head) = codes "}\n"
+
+-- the line of a box, and what stands before it
+abbrev pub box_start : ℕ → Box → List ℕ
+box_start position box = part_line box.part ++ box_line position box
+
 -- ---- what is below a box
 
 -- the node of what is below a box: a letter, and the numbers of the box and of the place below it
@@ -158,7 +178,7 @@ arc_lines position place (arc ∷ arcs) = arc_line position place arc ++ arc_lin
 -- boxes, from a position on, each with what is below it
 abbrev pub boxes_text : ℕ → List Box → List ℕ
 boxes_text position [] = []
-boxes_text position (box ∷ boxes) = box_line position box ++ (arc_lines position 0 box.arcs ++ boxes_text (position + 1) boxes)
+boxes_text position (box ∷ boxes) = box_start position box ++ (arc_lines position 0 box.arcs ++ (part_end box.part ++ boxes_text (position + 1) boxes))
 
 -- a line of the legend
 abbrev pub legend_line : List ℕ → List ℕ
@@ -170,14 +190,23 @@ style_text =
     codes "digraph tree {\ngraph [splines=polyline,nodesep=0.25,ranksep=0.35,fontname=\"Helvetica\",fontsize=9,labelloc=b,labeljust=l];\n"
     ++ codes "node [fontname=\"Helvetica\",fontsize=10,margin=\"0.02\",shape=plain];\nedge [arrowhead=none,tailport=s,headport=n];\n"
 
+-- the parts of a picture are put together as they fit
+abbrev pub pack_text : Bool → List ℕ
+pack_text false = []
+pack_text true = codes "packmode=\"graph\";\n"
+
+-- how all is drawn, in one part or in several
+abbrev pub drawn_text : Bool → List ℕ
+drawn_text parted = style_text ++ pack_text parted
+
 -- what the symbols mean
 abbrev pub symbols_text : List ℕ
 symbols_text = codes "label=<&amp;: all inputs, &ge;n: at least n inputs; circle: event, house: from outside; triangle T: goes on at the box with &#9651;T<br align=\"left\"/>"
 
 -- the lines before the boxes: how all is drawn, and the legend, which begins with what the symbols mean
-abbrev pub head_text : List (List ℕ) → List ℕ
-head_text legend = style_text ++ (symbols_text ++ (flat_map legend_line legend ++ codes ">;\n"))
+abbrev pub head_text : Bool → List (List ℕ) → List ℕ
+head_text parted legend = drawn_text parted ++ (symbols_text ++ (flat_map legend_line legend ++ codes ">;\n"))
 
 -- The DOT text of a picture.
 abbrev pub picture_text : Picture → List ℕ
-picture_text picture = head_text picture.legend ++ (boxes_text 0 picture.boxes ++ codes "}\n")
+picture_text picture = head_text picture.parted picture.legend ++ (boxes_text 0 picture.boxes ++ codes "}\n")

@@ -1,5 +1,5 @@
 -- The picture of a tree.
-use Rattle.std.specs.Prelude.{ℕ, ◌+◌, Bool, true, false, ◌==◌, ◌&&◌, if◌then◌else◌, List, [], ◌∷◌, map, filter, length, slice_get, slice_index_or, Option, None, Some}
+use Rattle.std.specs.Prelude.{ℕ, zero, suc, ◌+◌, ◌^◌, Bool, true, false, ◌==◌, ◌&&◌, nat_lt, if◌then◌else◌, List, [], ◌∷◌, map, filter, length, slice_get, slice_index_or, Option, None, Some}
 use Rattle.std.specs.List.{range_with_len}
 use Rattle.std.specs.Option.{option_map_or}
 use Rattle.fault_system.specs.Systems.{System, event_name, fact_name}
@@ -44,17 +44,48 @@ usages_of gates = map (λ input. usage_of (users gates (length gates) input)) (r
 abbrev pub usage_at : List Usage → ℕ → Usage
 usage_at usages position = slice_index_or usages position Unused
 
--- whether a gate that is used so is drawn below the gate at a position: that is the first which uses it
-abbrev pub is_below : ℕ → Usage → Bool
-is_below position Unused = false
-is_below position (Once first) = first == position
-is_below position (Shared first) = first == position
-
 -- whether transfers lead to a gate that is used so
 abbrev pub is_shared : Usage → Bool
 is_shared Unused = false
 is_shared (Once first) = false
 is_shared (Shared first) = true
+
+-- ---- parts
+
+-- whether a tree is drawn in several parts: one of more than 40 boxes is
+abbrev pub is_parted : List Gate → Bool
+is_parted gates = nat_lt 40 (length gates)
+
+-- the gate above one that a single gate uses
+abbrev pub above : Usage → Option ℕ
+above Unused = None
+above (Once first) = Some first
+above (Shared first) = None
+
+-- the gate at the head of the part of one: from that, at most so many gates up, to one that several use, or none
+unfoldable pub head : List Usage → ℕ → ℕ → ℕ
+head usages zero position = position
+head usages (suc steps) position = option_map_or (head usages steps) (above (usage_at usages position)) position
+
+-- the gate at the head of the part of each gate
+abbrev pub heads_of : List Usage → List ℕ
+heads_of usages = map (head usages (2 ^ 32)) (range_with_len 0 (length usages))
+
+-- that of the gate at a position
+abbrev pub head_at : List ℕ → ℕ → ℕ
+head_at heads position = slice_index_or heads position position
+
+-- the part in which a box stands, by the box at its head: only where the tree is drawn in parts, and not of the top
+abbrev pub part_of : Sheet → ℕ → Option ℕ
+part_of sheet position =
+    if is_parted sheet.tree.gates then (if head_at sheet.heads position == sheet.tree.top then None else Some (head_at sheet.heads position)) else None
+
+-- whether a gate that is used so is drawn below the gate at a position: that is the first which uses it; one to which transfers
+-- lead is drawn below none, where the tree is drawn in parts
+abbrev pub is_below : Bool → ℕ → Usage → Bool
+is_below parted position Unused = false
+is_below parted position (Once first) = first == position
+is_below parted position (Shared first) = if parted then false else first == position
 
 -- ---- boxes
 
@@ -76,16 +107,17 @@ box_words sheet position gate =
     else if is_inner sheet.tree.gates gate (usage_at sheet.usages position) then None
     else Some (fact_name sheet.system gate.fact)
 
--- what is below the gate at a position for an input: a gate is drawn below the first that uses it, and the others have a transfer
+-- what is below the gate at a position for an input: a gate that is drawn there, or a transfer to it
 abbrev pub arc_of : Sheet → ℕ → Input → Arc
 arc_of sheet position (inputs.Event number) = EventArc (event_name sheet.system number) (rate_of sheet.rates number)
 arc_of sheet position (inputs.Gate number) =
-    if is_below position (usage_at sheet.usages number) then BoxArc number else TransferArc number (name_at sheet.system sheet.tree.gates number)
+    if is_below (is_parted sheet.tree.gates) position (usage_at sheet.usages number) then BoxArc number else TransferArc number (name_at sheet.system sheet.tree.gates number)
 
 -- the box of the gate at a position
 abbrev pub box_of : Sheet → ℕ → Gate → Box
 box_of sheet position gate =
     record {
+      part = part_of sheet position;
       name = gate_name sheet.system gate;
       words = box_words sheet position gate;
       kind = gate.kind;
@@ -102,11 +134,11 @@ boxes_of sheet position (gate ∷ gates) = box_of sheet position gate ∷ boxes_
 
 -- what is drawn of a tree
 abbrev pub sheet_of : System → Tree → List Rate → Title → Sheet
-sheet_of system tree rates title = record { system = system; tree = tree; rates = rates; title = title; usages = usages_of tree.gates }
+sheet_of system tree rates title = record { system = system; tree = tree; rates = rates; title = title; usages = usages_of tree.gates; heads = heads_of (usages_of tree.gates) }
 
 -- the picture of a sheet
 abbrev pub sheet_picture : Sheet → Picture
-sheet_picture sheet = record { legend = sheet.title.legend; boxes = boxes_of sheet 0 sheet.tree.gates }
+sheet_picture sheet = record { parted = is_parted sheet.tree.gates; legend = sheet.title.legend; boxes = boxes_of sheet 0 sheet.tree.gates }
 
 -- the picture of a tree
 abbrev pub tree_picture : System → Tree → List Rate → Title → Picture

@@ -2,11 +2,12 @@
 
 ghost use Rattle.std.specs.Prelude.{◌≡◌, ◌++◌, OnOk, flat_map, option_copied};
 ghost use Rattle.galileo_writer.specs.TreeText.{gate_name};
-ghost use Rattle.dot_writer.specs.Picture.{box_line, box_look, head_text, kind_told, kind_word, legend_line, style_text, symbol, symbol_row, symbols_text, tooltip, transfer_sign, words_row};
+ghost use Rattle.dot_writer.specs.Picture.{box_line, box_look, box_start, drawn_text, head_text, kind_told, kind_word, legend_line, pack_text, part_line, style_text, symbol, symbol_row, symbols_text, tooltip, transfer_sign, words_row};
 ghost use Rattle.dot_writer.specs.TreePicture.{box_of, box_words, is_inner, is_shared, of_one_formula, usage_at};
 
 use crate::gates::gate_at;
 use crate::leaves::{push_decimal, push_number, push_tooltip, usage_at};
+use crate::parts::part_of;
 use crate::sheet::Sheet;
 use crate::shown::push_shown;
 use crate::usages::Usage;
@@ -17,14 +18,37 @@ use plain_values::{Mem, Name};
 use round_gates::{Gate, GateKind};
 use std::alloc::Global;
 
-/// Adds the line of the box of the gate at a position.
-pub(crate) fn push_box(
+/// Adds the line of the box of the gate at a position, and what stands before it.
+pub(crate) fn push_box_start(
     alloc: Global,
     line: &mut Vec<u8>,
     sheet: &Sheet,
     position: u32,
     gate: &Gate,
 ) -> Mem<()>
+    ensures { OnOk result (line.new.items ≡ line.old.items ++ box_start position (box_of sheet.now position gate.now)) }
+{
+    push_part_line(line, part_of(sheet, position))?;
+    push_box(alloc, line, sheet, position, gate)
+}
+
+/// Adds the line before a box that stands in a part.
+fn push_part_line(line: &mut Vec<u8>, part: Option<u32>) -> Mem<()>
+    ensures { OnOk result (line.new.items ≡ line.old.items ++ part_line part) }
+{
+    match part {
+        Some(head) => {
+            line.extend_from_slice(b"subgraph cluster_")?;
+            push_number(line, head)?;
+            line.extend_from_slice(b" {label=\"\";color=gray;\n")?;
+            Ok(())
+        }
+        None => Ok(()),
+    }
+}
+
+/// Adds the line of the box of the gate at a position.
+fn push_box(alloc: Global, line: &mut Vec<u8>, sheet: &Sheet, position: u32, gate: &Gate) -> Mem<()>
     ensures { OnOk result (line.new.items ≡ line.old.items ++ box_line position (box_of sheet.now position gate.now)) }
 {
     line.push(b'g')?;
@@ -209,14 +233,34 @@ fn is_shared(usage: Usage) -> bool
 }
 
 /// Adds the lines before the boxes: how all is drawn, and the legend, which begins with what the symbols mean.
-pub(crate) fn push_head_text(line: &mut Vec<u8>, legend: &[Name]) -> Mem<()>
-    ensures { OnOk result (line.new.items ≡ line.old.items ++ head_text legend.now) }
+pub(crate) fn push_head_text(line: &mut Vec<u8>, parted: bool, legend: &[Name]) -> Mem<()>
+    ensures { OnOk result (line.new.items ≡ line.old.items ++ head_text parted legend.now) }
 {
-    line.extend_from_slice(style_text())?;
+    push_drawn(line, parted)?;
     line.extend_from_slice(symbols_text())?;
     push_legend(line, legend)?;
     line.extend_from_slice(b">;\n")?;
     Ok(())
+}
+
+/// Adds how all is drawn, in one part or in several.
+fn push_drawn(line: &mut Vec<u8>, parted: bool) -> Mem<()>
+    ensures { OnOk result (line.new.items ≡ line.old.items ++ drawn_text parted) }
+{
+    line.extend_from_slice(style_text())?;
+    line.extend_from_slice(pack_text(parted))?;
+    Ok(())
+}
+
+/// How the parts are put together.
+fn pack_text(parted: bool) -> &'static [u8]
+    ensures { result.now ≡ pack_text parted }
+{
+    if parted {
+        b"packmode=\"graph\";\n"
+    } else {
+        b""
+    }
 }
 
 /// How all is drawn.

@@ -8,6 +8,7 @@ ghost use Rattle.dot_writer.specs.TreePicture.{arc_of, is_below, usage_at};
 ghost use Rattle.dot_writer.specs.Words.{behind};
 
 use crate::gates::name_at;
+use crate::parts::is_parted;
 use crate::sheet::Sheet;
 use crate::shown::push_shown;
 use crate::usages::Usage;
@@ -48,7 +49,8 @@ pub(crate) fn push_arc(
     match input {
         Input::Event(number) => push_event(line, sheet, position, place, number),
         Input::Gate(number) => {
-            if is_below(position, usage_at(sheet.usages.items(), number)) {
+            let parted = is_parted(&sheet.tree.gates);
+            if is_below(parted, position, usage_at(sheet.usages.items(), number)) {
                 push_edge(line, position, number)
             } else {
                 push_transfer(alloc, line, sheet, position, place, number)
@@ -136,13 +138,15 @@ pub(crate) fn usage_at(usages: &[Usage], position: u32) -> Usage
     }
 }
 
-/// Whether a gate that is used so is drawn below the gate at a position: that is the first which uses it.
-fn is_below(position: u32, usage: Usage) -> bool
-    ensures { result ≡ is_below position usage }
+/// Whether a gate that is used so is drawn below the gate at a position: that is the first which uses it; one to which transfers
+/// lead is drawn below none, where the tree is drawn in parts.
+fn is_below(parted: bool, position: u32, usage: Usage) -> bool
+    ensures { result ≡ is_below parted position usage }
 {
     match usage {
         Usage::Unused => false,
-        Usage::Once(first) | Usage::Shared(first) => first == position,
+        Usage::Once(first) => first == position,
+        Usage::Shared(first) => !parted && first == position,
     }
 }
 

@@ -6,6 +6,7 @@ mod dot_lines;
 mod gates;
 mod laws;
 mod leaves;
+mod parts;
 mod sheet;
 mod shown;
 mod usages;

@@ -14,7 +14,8 @@ pub struct Title {
     pub legend: List<Name>,
 }
 
-/// What is drawn of a tree: with its system, a rate for each event, and its title, how each gate is used.
+/// What is drawn of a tree: with its system, a rate for each event, and its title, how each gate is used, and which gate is at the
+/// head of its part.
 #[derive(Drop)]
 pub struct Sheet {
     pub system: FaultSystem,
@@ -22,4 +23,5 @@ pub struct Sheet {
     pub rates: List<Rate>,
     pub title: Title,
     pub usages: List<Usage>,
+    pub heads: List<u32>,
 }
