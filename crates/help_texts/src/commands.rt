@@ -288,4 +288,4 @@ pub const PROGRAM: &[u8] = b"aadl_fta 0.1.0";
 pub const VERSIONS: &[u8] = b"aadl_fta 0.1.0\n\
     profile 1\n\
     profile 2\n\
-    formats: check 1 cuts 1 tree 1 mef 1 dot 1 fmea 1 report 1 make 1 galileo 1 paths 1 why 1 confirm 1 targets 1 events 1 review 6 place 1 manifest 2 refusals 1 probability 1 require 1 compare 1\n";
+    formats: check 1 cuts 1 tree 1 mef 1 dot 2 fmea 1 report 1 make 1 galileo 1 paths 1 why 1 confirm 1 targets 1 events 1 review 6 place 1 manifest 2 refusals 1 probability 1 require 1 compare 1\n";
