@@ -9,7 +9,7 @@ use fact_formulas::NumberedModel;
 use instantiator::Instance;
 use model_facts::Assembly;
 use model_review::{Finding, flow_of};
-use plain_values::{Mem, Spot};
+use plain_values::{List, Mem, Spot};
 use propagation_links::Unlinked;
 use std::alloc::Global;
 
@@ -54,9 +54,7 @@ pub(crate) fn finding_spot(
         Finding::UnusedEvent(event) => event_spot(alloc, places, model, *event),
         Finding::NoSingle(event) => event_spot(alloc, places, model, *event),
         Finding::NoEffect => Ok(classifier_spot(assembly.instance(), 0)),
-        Finding::UnreachedEvents(events) => {
-            first_event_spot(alloc, places, model, events.items())
-        }
+        Finding::UnreachedEvents(events) => { first_event_spot(alloc, places, model, events) }
     }
 }
 
@@ -88,11 +86,11 @@ fn first_event_spot(
     alloc: Global,
     places: &ModelPlaces,
     model: &NumberedModel,
-    events: &[u32],
+    events: &List<u32>,
 ) -> Mem<Option<Spot>>
     ensures { IfOk result (λ spot. spot ≡ first_event_spot (record { assembly = places.now; universe = model.now.universe; facts = model.now.facts; events = model.now.events }) events.now) }
 {
-    match events.first() {
+    match events.items().get(0) {
         Some(event) => event_spot(alloc, places, model, *event),
         None => Ok(None),
     }
