@@ -87,7 +87,8 @@ fn add_ends(alloc: Global, found: &mut List<Finding>, view: &View) -> Mem<()>
     add_inward(alloc, found, view)?;
     add_of_components(alloc, found, view, &AtPoints(NeverOut))?;
     add_states(alloc, found, view)?;
-    add_text(alloc, found, view)
+    add_text(alloc, found, view)?;
+    Ok(())
 }
 
 /// Adds the sides at which errors stop: at points without a sink, and at those with one, what no sink takes.
