@@ -1,5 +1,5 @@
 -- Rates of events.
-use Rattle.std.specs.Prelude.{ℕ, if◌then◌else◌, List, [], ◌∷◌, codes, find, Option, None, Some, option_and_then, option_map}
+use Rattle.std.specs.Prelude.{ℕ, Bool, false, ◌&&◌, if◌then◌else◌, List, [], ◌∷◌, codes, find, Option, None, Some, is_some, option_and_then, option_map}
 use Rattle.plain_values.specs.Name.{is_same_text}
 use Rattle.aadl_syntax.specs.declared.error_model.Association.{Association}
 use Rattle.aadl_syntax.specs.declared.token.Token.{Token}
@@ -68,3 +68,13 @@ value_rate value = fields_rate (value_fields value)
 abbrev pub association_rate : Option Association → Rate
 association_rate None = conservative_rate
 association_rate (Some association) = value_rate association.value
+
+-- whether fields give a rate: a distribution that is known, and a number
+abbrev pub fields_give_rate : Option (List Field) → Bool
+fields_give_rate None = false
+fields_give_rate (Some fields) = is_some (fields_kind fields) && is_some (fields_number fields)
+
+-- Whether an association gives a rate, where there is one; the rate of all others is the conservative one.
+abbrev pub gives_rate : Option Association → Bool
+gives_rate None = false
+gives_rate (Some association) = fields_give_rate (value_fields association.value)

@@ -6,4 +6,4 @@ mod laws;
 mod rate;
 
 pub use laws::value_reads;
-pub use rate::{Rate, RateKind, conservative_rates, rate_of, rate_word};
+pub use rate::{Rate, RateKind, conservative_rates, gives_rate, rate_of, rate_word};

@@ -2,7 +2,8 @@ ghost use Rattle.std.specs.Prelude.{◌≡◌, All, IfOk, IfSome, find, length, 
 ghost use Rattle.aadl_syntax.specs.Form.{IsNumber};
 ghost use Rattle.aadl_syntax.specs.inner.Token.{IsTokenText};
 ghost use Rattle.aadl_syntax.specs.declared.token.TokenKind.TheVariants.{Number, Word};
-ghost use Rattle.property_reader.specs.Rates.{association_rate, conservative_rate, distribution_kind, field_named, fields_kind, fields_number, fields_rate, only_text, rate_with, rate_word, value_rate};
+ghost use Rattle.property_reader.specs.Fields.{value_fields};
+ghost use Rattle.property_reader.specs.Rates.{association_rate, conservative_rate, distribution_kind, field_named, fields_give_rate, fields_kind, fields_number, fields_rate, gives_rate, only_text, rate_with, rate_word, value_rate};
 
 use crate::field::{Field, fields_of};
 use aadl_syntax::{Association, TokenKind, TokenList};
@@ -62,6 +63,34 @@ pub fn rate_of(alloc: Global, association: Option<&Association>) -> Mem<Rate>
     match association {
         Some(association) => value_rate(alloc, &association.value),
         None => Rate::conservative(alloc),
+    }
+}
+
+/// Whether an association gives a rate, where there is one. The rate of all others is the conservative one, which a model may also write.
+pub fn gives_rate(alloc: Global, association: Option<&Association>) -> Mem<bool>
+    ensures { IfOk result (λ gives. gives ≡ gives_rate (option_copied association.entry)) }
+{
+    match association {
+        Some(association) => value_gives_rate(alloc, &association.value),
+        None => Ok(false),
+    }
+}
+
+/// Whether a value gives a rate.
+fn value_gives_rate(alloc: Global, value: &TokenList) -> Mem<bool>
+    ensures { IfOk result (λ gives. gives ≡ fields_give_rate (value_fields value.now)) }
+{
+    let fields = fields_of(alloc, value)?;
+    Ok(fields_give_rate(&fields))
+}
+
+/// Whether fields give a rate.
+fn fields_give_rate(fields: &Option<List<Field>>) -> bool
+    ensures { result ≡ fields_give_rate fields.now }
+{
+    match fields {
+        Some(fields) => kind_in(fields.items()).is_some() && number_in(fields.items()).is_some(),
+        None => false,
     }
 }
 
