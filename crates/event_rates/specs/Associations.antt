@@ -15,7 +15,7 @@ use Rattle.error_models.specs.Below.{machine_of}
 use Rattle.instantiator.specs.Components.{component_below}
 use Rattle.instantiator.specs.Whole.{Instance, effective_in}
 use Rattle.property_reader.specs.declared.rate.Rate.{Rate}
-use Rattle.property_reader.specs.Rates.{association_rate}
+use Rattle.property_reader.specs.Rates.{association_rate, gives_rate}
 
 -- ---- one text
 
@@ -89,3 +89,7 @@ association_of profile instance event =
 -- The rate of an event of a model.
 abbrev pub rate_in : Profile → Instance → EventInfo → Rate
 rate_in profile instance event = association_rate (association_of profile instance event)
+
+-- Whether a model gives an event a rate; the rate of all others is the conservative one.
+abbrev pub is_rated_in : Profile → Instance → EventInfo → Bool
+is_rated_in profile instance event = gives_rate (association_of profile instance event)

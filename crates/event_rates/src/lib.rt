@@ -7,5 +7,5 @@ mod rates;
 mod table;
 mod unused;
 
-pub use rates::rates_of;
+pub use rates::{rated_of, rates_of};
 pub use unused::{UnusedRate, unused_rates};

@@ -1,7 +1,7 @@
 ghost use Rattle.std.specs.Prelude.{◌≡◌, ◌++◌, ◌∷◌, [], ℕ, All, IfOk, List, OnOk, map, option_copied};
 ghost use Rattle.aadl_syntax.specs.Form.{IsNumber};
 ghost use Rattle.instantiator.specs.Components.{component_below};
-ghost use Rattle.event_rates.specs.Associations.{association_of, fitting_along, path_in, rate_in};
+ghost use Rattle.event_rates.specs.Associations.{association_of, fitting_along, is_rated_in, path_in, rate_in};
 
 use crate::kinds::Tables;
 use aadl_syntax::{Association, Identifier};
@@ -9,7 +9,7 @@ use fault_system::EventInfo;
 use instantiator::Instance;
 use plain_values::{List, Mem, Name, copied};
 use profiles::Profile;
-use property_reader::{Rate, rate_of};
+use property_reader::{Rate, gives_rate, rate_of};
 use std::alloc::Global;
 
 /// The rates of events of a model, in order (EMV2: `OccurrenceDistribution`).
@@ -35,7 +35,34 @@ pub fn rates_of(
     Ok(rates)
 }
 
+/// For each of these events of a model whether the model gives it a rate. The rate of all others is the conservative one, which a model may
+/// also write.
+pub fn rated_of(
+    alloc: Global,
+    profile: Profile,
+    instance: &Instance<'_, '_>,
+    events: &[EventInfo],
+) -> Mem<List<bool>>
+    ensures { IfOk result (λ rated. rated ≡ map (is_rated_in profile instance.now) events.now) }
+{
+    let tables = Tables::of(alloc, profile, instance)?;
+    let mut rated = List::new(alloc);
+    for event in events {
+        let is_rated = tables.is_rated_in(alloc, event)?;
+        rated.push(is_rated)?;
+    }
+    Ok(rated)
+}
+
 impl<'r> Tables<'r> {
+    /// Whether the model gives an event a rate.
+    fn is_rated_in(&self, alloc: Global, event: &EventInfo) -> Mem<bool>
+        ensures { IfOk result (λ is_rated. is_rated ≡ is_rated_in self.now.profile self.now.instance event.now) }
+    {
+        let names = names_of(alloc, self.path(event.owner), event.key.items())?;
+        gives_rate(alloc, self.association_of(event, names.items()))
+    }
+
     /// The rate of an event.
     fn rate_in(&self, alloc: Global, event: &EventInfo) -> Mem<Rate>
         ensures rate { IfOk result (λ rate. rate ≡ rate_in self.now.profile self.now.instance event.now) }

@@ -1,0 +1,2 @@
+mod FoundLaws
+mod NamesLaws

@@ -1,0 +1,6 @@
+use Rattle.std.proofs.Common.{◌≡◌, ◌++◌, flat_map, map, take}
+use Rattle.rate_keys.specs.Keys.{lone_event, source_type_keys}
+use Rattle.rate_keys.proofs.keys.add_source_types.Given as goal
+
+abbrev pub invariant-loop-scoped : goal.invariant-loop-scoped
+invariant-loop-scoped l = l.keys ≡ l.fn.keys ++ flat_map (source_type_keys l.lone.events (lone_event l.lone.events l.lone.transitions)) (map (λ scoped. scoped.item) (take l.scoped-index l.flows))
