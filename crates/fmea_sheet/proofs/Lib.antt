@@ -1,0 +1,3 @@
+mod RowEvents
+mod SheetLaws
+mod Examples

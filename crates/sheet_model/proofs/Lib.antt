@@ -1,0 +1,2 @@
+mod NextLaws
+mod Examples
