@@ -84,7 +84,8 @@ _aadl_fta() {
     check | events | review | manifest | refusals) options='--profile' files_from=3 ;;
     cuts) options='--limit --after --max-order --tokens --profile' files_from=4 ;;
     tree) options='--format --gates --unrated --profile' files_from=4 ;;
-    fmea | targets) options='--all --profile' files_from=3 ;;
+    fmea) options='--all --sheet --profile' files_from=3 ;;
+    targets) options='--all --profile' files_from=3 ;;
     report) options='--reports --max-order --profile' files_from=4 ;;
     make) options='--text' ;;
     galileo) options='--profile --paths --limit --max-order --format --gates --probability --hours --events' files_from=2 ;;

@@ -21,7 +21,10 @@ use Rattle.model_facts.specs.Laws.{IsPlain, Lacks}
 use Rattle.model_phases.specs.Named.{IsPlainModel, IsPlainSystem}
 use Rattle.model_phases.specs.declared.flat.FlatModel.{FlatModel}
 use Rattle.profiles.specs.declared.profile.Profile.{Profile}
-use Rattle.fta_run.specs.Due.{model_of_texts}
+use Rattle.fta_run.specs.Due.{made_of_texts, model_of_texts}
+use Rattle.model_phases.specs.declared.events.EventModel.{EventModel}
+use Rattle.sheet_model.specs.Phase.{sheet_phase}
+use Rattle.sheet_model.specs.declared.model.SheetModel.{SheetModel}
 
 -- a byte that a text lacks is not in it
 lacks : (byte : ℕ) (text : List ℕ) → Lacks byte text → Contains text byte → ⊥
@@ -127,3 +130,13 @@ plain_model profile root texts model at = at.2.2.2.2.2.2.2.plain
 pub plain_texts : (profile : Profile) (root : Root) (texts : List (List ℕ)) (result : Result FlatModel Status) → Meets (model_of_texts profile root texts) result → IfOk result IsPlainModel
 plain_texts profile root texts (Ok model) passes = plain_model profile root texts model passes.passed
 plain_texts profile root texts (Err status) end = tt
+
+-- and so it is where it is made with what a sheet tells
+plain_sheet : (profile : Profile) (root : Root) (texts : List (List ℕ)) (model : SheetModel) → Passed (made_of_texts sheet_phase profile root texts) model → IsPlainModel model.events.flat
+plain_sheet profile root texts model at =
+    let made = at.2.2.2.2.2.2.2 in
+    subst IsPlainModel (sym (ap (λ (sheet : SheetModel). sheet.events.flat) made.2 ∙ ap (λ (events : EventModel). events.flat) made.1.2)) made.1.1.plain
+
+pub plain_sheets : (profile : Profile) (root : Root) (texts : List (List ℕ)) (result : Result SheetModel Status) → Meets (made_of_texts sheet_phase profile root texts) result → IfOk result (λ model. IsPlainModel model.events.flat)
+plain_sheets profile root texts (Ok model) passes = plain_sheet profile root texts model passes.passed
+plain_sheets profile root texts (Err status) end = tt

@@ -9,10 +9,11 @@ use Rattle.package_index.specs.Lookup.{packages_of}
 use Rattle.fault_system.specs.Systems.{IsSystem, System}
 use Rattle.fta_words.specs.declared.command.Paging.{Paging}
 use Rattle.model_phases.specs.Named.{IsPlainSystem}
-use Rattle.model_phases.proofs.Decided.{model_decided, origins_decided, review_decided}
+use Rattle.model_phases.proofs.Decided.{assembled_decided, model_decided, origins_decided, review_decided}
 use Rattle.profiles.specs.declared.profile.Profile.{Profile}
 use Rattle.profiles.specs.declared.profile.Profile.TheVariants.{First}
-use Rattle.model_phases.specs.Phases.{assembled, flat_phase, origins_phase, review_phase}
+use Rattle.model_phases.specs.Phases.{IsFlat, assembled, flat_phase, origins_phase, review_phase}
+use Rattle.sheet_model.specs.Phase.{sheet_phase}
 use Rattle.model_facts.specs.Assembly.{Assembly}
 use Rattle.aadl_syntax.specs.declared.core_model.PackageUnit.{PackageUnit}
 use Rattle.package_index.specs.declared.id.ClassifierId.{ClassifierId}
@@ -41,7 +42,7 @@ use Rattle.listing_changes.specs.Changes.{TellsChanges}
 use Rattle.listing_changes.proofs.Texts.{text-once}
 use Rattle.fta_run.specs.Compared.{compared_text}
 use Rattle.fta_run.specs.Sets.{set_asked}
-use Rattle.fta_run.specs.Due.{compared_in, confirmed_in, cuts_in, due, first_text, galileo_in, is_require, made_of_texts, made_root, made_target, make_text, model_of_texts, other_texts, output_for, output_with, require_in, required_in, sets_of_tree, sized_text, text_by, told_of_tree, texts_of, units_of, within_limits}
+use Rattle.fta_run.specs.Due.{compared_in, confirmed_in, cuts_in, due, first_text, fmea_in, galileo_in, is_require, made_of_texts, made_root, made_target, make_text, model_of_texts, other_texts, output_for, output_with, require_in, required_in, sets_of_tree, sized_text, text_by, told_of_tree, texts_of, units_of, within_limits}
 use Rattle.fta_run.specs.inner.Texts.{request_text, text_due}
 use Rattle.fta_run.specs.Required.{Output, TellsLines}
 use Rattle.fta_run.proofs.RequiredLaws.{lines-decided, output-decided, required-opened}
@@ -256,6 +257,15 @@ galileo_in_opened true options files texts = (
 )
 galileo_in_opened false options files texts = told_opened (is_set options (codes "probability")) options (first_text texts)
 
+-- ---- a table or a sheet
+
+sheet_decided : (profile : Profile) (packages : List PackageUnit) (root : ClassifierId) → IsDecided IsSameStatus (assembled sheet_phase profile packages root)
+sheet_decided = assembled_decided IsSameStatus itself sheet_phase (λ assembly. ((decided_accepts IsSameStatus (IsFlat assembly) (λ a b one other. one.model_is ∙ sym other.model_is), λ model at. tt), λ model at. tt))
+
+fmea_decided : (sheet : Bool) (profile : Profile) (root : Root) (all : Bool) (files texts : List (List ℕ)) → IsDecided IsSameStatus (fmea_in sheet profile root all files texts)
+fmea_decided true profile root all files texts = (made_decided sheet_phase profile (sheet_decided profile) root texts, λ model at. tt)
+fmea_decided false profile root all files texts = (texts_model_decided profile root texts, λ model at. tt)
+
 -- ---- what a request asks for
 
 text_decided : (profile : Profile) (asked_kind : Kind) (voices : List Voice) (asked : Request) (texts : List (List ℕ)) → length (first_text texts) ≤ 4194304 → KeepsGates asked_kind asked → HasSets asked_kind texts → IsDecided IsSameStatus (text_by profile asked_kind voices asked texts)
@@ -263,7 +273,7 @@ text_decided profile kind.Check voices asked texts short keeps sets = (texts_mod
 text_decided profile kind.Cuts voices asked texts short keeps sets = cuts_in_decided profile asked.root asked.target asked.options.paging (is_set asked.options (codes "tokens")) texts
 text_decided profile kind.Tree voices asked texts short keeps sets =
     (texts_model_decided profile asked.root texts, λ model at. tree_decided IsSameStatus itself asked.target (form_asked profile asked texts) model.system model.rates keeps (plain_model profile asked.root texts model at).system.is_system)
-text_decided profile kind.Fmea voices asked texts short keeps sets = (texts_model_decided profile asked.root texts, λ model at. tt)
+text_decided profile kind.Fmea voices asked texts short keeps sets = fmea_decided (is_set asked.options (codes "sheet")) profile asked.root (is_set asked.options (codes "all")) asked.files texts
 text_decided profile kind.Report voices asked texts short keeps sets =
     (texts_model_decided profile asked.root texts, λ model at. report_decided IsSameStatus itself asked.target asked.options.chosen asked.options.paging.max_order voices model.system)
 text_decided profile kind.Make voices asked texts short keeps sets = make_decided asked.number (is_set asked.options (codes "text"))

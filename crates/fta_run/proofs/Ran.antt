@@ -15,10 +15,11 @@ use Rattle.phases.proofs.Endings.{StopsOnly, stops_only}
 use Rattle.fault_system.specs.Systems.{System, event_name}
 use Rattle.fault_system.specs.Truth.{set_of}
 use Rattle.package_index.specs.Lookup.{packages_of}
-use Rattle.model_phases.proofs.Decided.{IsARefusal, model_stops, origins_stop, review_stop}
+use Rattle.model_phases.proofs.Decided.{IsARefusal, assembled_stops, model_stops, origins_stop, review_stop}
 use Rattle.profiles.specs.declared.profile.Profile.{Profile}
 use Rattle.profiles.specs.declared.profile.Profile.TheVariants.{First}
 use Rattle.model_phases.specs.Phases.{assembled, flat_phase, origins_phase, review_phase}
+use Rattle.sheet_model.specs.Phase.{sheet_phase}
 use Rattle.model_facts.specs.Assembly.{Assembly}
 use Rattle.aadl_syntax.specs.declared.core_model.PackageUnit.{PackageUnit}
 use Rattle.package_index.specs.declared.id.ClassifierId.{ClassifierId}
@@ -44,7 +45,7 @@ use Rattle.path_sets.specs.PathSets.{HasLargePaths}
 use Rattle.system_answers.specs.inner.Ends.{EndsReports}
 use Rattle.fta_run.specs.Compared.{compared_text}
 use Rattle.fta_run.specs.Sets.{set_asked}
-use Rattle.fta_run.specs.Due.{compared_in, confirmed_in, cuts_in, due, first_text, galileo_in, is_require, made_of_texts, made_root, made_target, make_text, model_of_texts, other_texts, output_for, output_with, report_in, require_in, required_in, sets_of_tree, sized_text, text_by, told_of_tree, texts_of, within_limits}
+use Rattle.fta_run.specs.Due.{compared_in, confirmed_in, cuts_in, due, first_text, fmea_in, galileo_in, is_require, made_of_texts, made_root, made_target, make_text, model_of_texts, other_texts, output_for, output_with, report_in, require_in, required_in, sets_of_tree, sized_text, text_by, told_of_tree, texts_of, within_limits}
 use Rattle.fta_run.specs.inner.Texts.{request_text, text_due, text_for}
 use Rattle.fta_run.specs.Required.{Output, TellsLines, with_all_met}
 use Rattle.fta_run.specs.Forms.{drawn_words, is_drawn, is_exchanged, is_merging, is_wide, picture_legend, profile_of, tree_form, tree_words}
@@ -249,11 +250,18 @@ compared_stop profile root target count max_order texts = (
   λ older at. (refusal_is (IsLater count (model_of_texts profile root (drop count texts))), λ newer behind. compared_text_stop target max_order older.system newer.system),
 )
 
+sheet_stop : (profile : Profile) (packages : List PackageUnit) (root : ClassifierId) → StopsOnly IsARefusal (assembled sheet_phase profile packages root)
+sheet_stop = assembled_stops sheet_phase (λ assembly. ((λ s none. absurd none, λ model at. tt), λ model at. tt))
+
+fmea_stop : (sheet : Bool) (profile : Profile) (root : Root) (all : Bool) (files texts : List (List ℕ)) → StopsOnly IsAnEnd (fmea_in sheet profile root all files texts)
+fmea_stop true profile root all files texts = (refusals (made_of_texts sheet_phase profile root texts) (made_stops sheet_phase profile (sheet_stop profile) root texts), λ model at. tt)
+fmea_stop false profile root all files texts = (refusals (model_of_texts profile root texts) (texts_model_stops profile root texts), λ model at. tt)
+
 text_stops : (profile : Profile) (asked_kind : Kind) (voices : List Voice) (asked : Request) (texts : List (List ℕ)) → StopsOnly IsAnEnd (text_by profile asked_kind voices asked texts)
 text_stops profile kind.Check voices asked texts = (refusals (model_of_texts profile asked.root texts) (texts_model_stops profile asked.root texts), λ model at. tt)
 text_stops profile kind.Cuts voices asked texts = cuts_in_stop profile asked.root asked.target asked.options.paging (is_set asked.options (codes "tokens")) texts
 text_stops profile kind.Tree voices asked texts = (refusals (model_of_texts profile asked.root texts) (texts_model_stops profile asked.root texts), λ model at. tree_stop asked.target (tree_form asked.options.form (tree_words profile asked.root asked.target) asked.files texts) model.system model.rates)
-text_stops profile kind.Fmea voices asked texts = (refusals (model_of_texts profile asked.root texts) (texts_model_stops profile asked.root texts), λ model at. tt)
+text_stops profile kind.Fmea voices asked texts = fmea_stop (is_set asked.options (codes "sheet")) profile asked.root (is_set asked.options (codes "all")) asked.files texts
 text_stops profile kind.Report voices asked texts = (
   refusals (model_of_texts profile asked.root texts) (texts_model_stops profile asked.root texts),
   λ model at.
@@ -617,11 +625,6 @@ by_profile Excuse phase result a b same met = subst (λ profile. MeetsBut (Excus
 pub meets_wider : {A B : Type 0} (Excuse Wider : Status → Type 0) (value : B → A) (phase : Phase A) (result : Result B Status) → ((s : Status) → Excuse s → Wider s) → MeetsBut Excuse value phase result → MeetsBut Wider value phase result
 meets_wider Excuse Wider value phase (Ok x) wider met = met
 meets_wider Excuse Wider value phase (Err s) wider end = elim end [ inl stops ↦ inl stops | inr excused ↦ inr (wider s excused) ]
-
--- the same of a phase by whether a flag is given
-pub meets_set : (Excuse Wider : Status → Type 0) (phase : Bool → Phase (List ℕ)) (said so : Bool) (result : Result Ready Status) → said ≡ so → ((s : Status) → Excuse s → Wider s)
-    → MeetsBut Excuse ready_text (phase said) result → MeetsBut Wider ready_text (phase so) result
-meets_set Excuse Wider phase said so result same wider met = meets_wider Excuse Wider ready_text (phase so) result wider (subst (λ (flag : Bool). MeetsBut Excuse ready_text (phase flag) result) same met)
 
 -- ---- the steps of a run
 

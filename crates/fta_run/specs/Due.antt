@@ -25,6 +25,8 @@ use Rattle.profiles.specs.declared.profile.Profile.TheVariants.{First, Second}
 use Rattle.model_phases.specs.Phases.{assembled, flat_phase, origins_phase, review_phase}
 use Rattle.model_phases.specs.declared.events.EventModel.{EventModel}
 use Rattle.event_lines.specs.Text.{events_text as text_of_events}
+use Rattle.sheet_model.specs.Phase.{sheet_phase}
+use Rattle.fmea_sheet.specs.Text.{sheet_text}
 use Rattle.finding_lines.specs.Text.{review_text}
 use Rattle.model_phases.specs.declared.flat.FlatModel.{FlatModel}
 use Rattle.fta_words.specs.declared.kind.Kind.TheVariants as kind
@@ -188,10 +190,20 @@ tree_in profile root target form files texts = do
   model ← model_of_texts profile root texts
   tree_text target (tree_form form (tree_words profile root target) files texts) model.system model.rates
 
-abbrev pub fmea_in : Profile → Root → Bool → List (List ℕ) → Phase (List ℕ)
-fmea_in profile root all texts = do
+abbrev pub table_in : Profile → Root → Bool → List (List ℕ) → Phase (List ℕ)
+table_in profile root all texts = do
   model ← model_of_texts profile root texts
   fmea_text all model
+
+abbrev pub sheet_in : Profile → Root → List (List ℕ) → List (List ℕ) → Phase (List ℕ)
+sheet_in profile root files texts = do
+  model ← made_of_texts sheet_phase profile root texts
+  yields (sheet_text files texts model)
+
+-- what `fmea` writes: the sheet, where it is asked for, or else the table
+abbrev pub fmea_in : Bool → Profile → Root → Bool → List (List ℕ) → List (List ℕ) → Phase (List ℕ)
+fmea_in true profile root all files texts = sheet_in profile root files texts
+fmea_in false profile root all files texts = table_in profile root all texts
 
 abbrev pub report_in : Profile → Root → List ℕ → List ℕ → Option ℕ → List Voice → List (List ℕ) → Phase (List ℕ)
 report_in profile root target chosen max_order voices texts = do
@@ -276,7 +288,7 @@ abbrev pub text_by : Profile → Kind → List Voice → Request → List (List 
 text_by profile kind.Check voices asked texts = check_in profile asked.root texts
 text_by profile kind.Cuts voices asked texts = cuts_in profile asked.root asked.target asked.options.paging (is_set asked.options (codes "tokens")) texts
 text_by profile kind.Tree voices asked texts = tree_in profile asked.root asked.target asked.options.form asked.files texts
-text_by profile kind.Fmea voices asked texts = fmea_in profile asked.root (is_set asked.options (codes "all")) texts
+text_by profile kind.Fmea voices asked texts = fmea_in (is_set asked.options (codes "sheet")) profile asked.root (is_set asked.options (codes "all")) asked.files texts
 text_by profile kind.Report voices asked texts = report_in profile asked.root asked.target asked.options.chosen asked.options.paging.max_order voices texts
 text_by profile kind.Make voices asked texts = make_text asked.number (is_set asked.options (codes "text"))
 text_by profile kind.Galileo voices asked texts = galileo_in (is_drawn asked.options.form) asked.options asked.files texts

@@ -9,10 +9,11 @@ ghost use Rattle.cut_reports.specs.Places.{AtChosen};
 ghost use Rattle.fta_words.specs.inner.Shown.{request_shown};
 ghost use Rattle.help_texts.specs.Texts.{explain_text, help_text};
 ghost use Rattle.model_phases.specs.Named.{IsPlainModel};
+ghost use Rattle.sheet_model.specs.Phase.{sheet_phase};
 ghost use Rattle.system_answers.specs.inner.Ends.{EndsReports};
 ghost use Rattle.system_answers.specs.Voices.{voices_of};
 ghost use Rattle.fta_run.specs.Answers.{is_by_lines};
-ghost use Rattle.fta_run.specs.Due.{check_in, compared_in, cuts_in, events_in, first_name, first_text, fmea_in, galileo_in, is_require, made_of_texts, manifest_in, model_of_texts, output_for, paths_in, place_in, probability_in, refusals_in, report_in, required_in, review_in, sets_of_tree, targets_in, text_by, told_of_tree, tree_in, why_in};
+ghost use Rattle.fta_run.specs.Due.{check_in, compared_in, cuts_in, events_in, first_name, first_text, fmea_in, galileo_in, is_require, made_of_texts, manifest_in, model_of_texts, output_for, paths_in, place_in, probability_in, refusals_in, report_in, required_in, review_in, sets_of_tree, sheet_in, table_in, targets_in, text_by, told_of_tree, tree_in, why_in};
 ghost use Rattle.fta_run.specs.inner.Texts.{text_for};
 ghost use Rattle.fta_run.specs.Forms.{drawn_words, is_drawn, picture_legend};
 ghost use Rattle.fta_run.specs.inner.Ready.{IsByLines, answer_output, held_text, ready_text};
@@ -38,6 +39,7 @@ use crate::text::numbers_of;
 use cutset_writer::ListingPage;
 use event_lines::events_text;
 use finding_lines::review_text;
+use fmea_sheet::SheetLines;
 use fta_outside::Report;
 use fta_words::{Form, Kind, Options, Paging, Request};
 use help_texts::{explain_text, help_text, version_text};
@@ -46,6 +48,7 @@ use page_tokens::asked_digest;
 use phases::Status;
 use plain_values::{Name, Root, Word};
 use profiles::Profile;
+use sheet_model::SheetModel;
 use std::alloc::Global;
 use system_answers::{ProbabilityForm, draw, tree_probability};
 use text_places::place_text;
@@ -132,7 +135,7 @@ fn answer_by(
             texts,
         )),
         Kind::Tree => tree(alloc, profile, root, target, &options.form, names, texts),
-        Kind::Fmea => fmea(alloc, profile, root, options.is_set(b"all"), texts),
+        Kind::Fmea => fmea(alloc, profile, root, options, names, texts),
         Kind::Report => ready_of(report(
             alloc,
             profile,
@@ -250,15 +253,60 @@ fn tree(
     Ok(Ready::Tree(text))
 }
 
-/// The FMEA table of the model of a root.
+/// The FMEA sheet of the model of a root in files of these names, where it is asked for, or else its FMEA table.
 fn fmea(
+    alloc: Global,
+    profile: Profile,
+    root: &Root,
+    options: &Options,
+    names: &[Word],
+    texts: Texts,
+) -> Result<Ready, Status>
+    ensures { MeetsBut IsMemory ready_text (fmea_in (is_set options.now (codes "sheet")) profile root.now (is_set options.now (codes "all")) names.now texts) result }
+{
+    if options.is_set(b"sheet") {
+        return sheet(alloc, profile, root, names, texts);
+    }
+    table(alloc, profile, root, options.is_set(b"all"), texts)
+}
+
+/// The FMEA sheet of the model of a root in files of these names.
+fn sheet(
+    alloc: Global,
+    profile: Profile,
+    root: &Root,
+    names: &[Word],
+    texts: Texts,
+) -> Result<Ready, Status>
+    ensures { MeetsBut IsMemory ready_text (sheet_in profile root.now names.now texts) result }
+{
+    let model = sheet_model(alloc, profile, root, &texts)?;
+    let lines = SheetLines::new(alloc, names, texts.items(), model)?;
+    Ok(Ready::Sheet(lines))
+}
+
+/// The model of a root in files of these texts, which are held on, with what a sheet tells of it.
+fn sheet_model(
+    alloc: Global,
+    profile: Profile,
+    root: &Root,
+    texts: &Texts,
+) -> Result<SheetModel, Status>
+    ensures meets { Meets (made_of_texts sheet_phase profile root.now texts.now) result }
+    ensures plain { IfOk result (λ model. IsPlainModel model.events.flat) }
+{
+    made_at(alloc, profile, root, texts)
+}
+
+/// The FMEA table of the model of a root.
+fn table(
     alloc: Global,
     profile: Profile,
     root: &Root,
     all: bool,
     texts: Texts,
 ) -> Result<Ready, Status>
-    ensures { MeetsBut IsMemory ready_text (fmea_in profile root.now all texts) result }
+    ensures { MeetsBut IsMemory ready_text (table_in profile root.now all texts) result }
 {
     let model = flat_model(alloc, profile, root, texts)?;
     let lines = table_of(alloc, model, all)?;

@@ -8,6 +8,7 @@ ghost use Rattle.system_answers.specs.inner.Forms.{tree_bytes};
 
 use cutset_writer::ListingPage;
 use fmea_rows::TableLines;
+use fmea_sheet::SheetLines;
 use fta_outside::{Sink, SinkFailed, WriteError, write_all, write_lines};
 use phases::Status;
 use plain_values::Name;
@@ -38,6 +39,8 @@ pub enum Ready {
     Tree(TreeText),
     /// A table, of which each line is made as it is written.
     Table(TableLines),
+    /// A sheet, of which each line is made as it is written.
+    Sheet(SheetLines),
 }
 
 /// What is answered to a request.
@@ -59,7 +62,7 @@ pub fn ready_of(answer: Result<Held, Status>) -> Result<Ready, Status>
     }
 }
 
-/// Writes an answer. Memory is wanting only for a line of a tree or of a table.
+/// Writes an answer. Memory is wanting only for a line of a tree, of a table or of a sheet.
 pub fn write<S: Sink>(alloc: Global, ready: Ready, out: &mut S) -> Result<(), WriteError>
     ensures wrote { WritesBut LacksMemory (ready_text ready) result (S.seen out.old) (S.seen out.new) }
     ensures wanting { IfErr result (λ error. LacksMemory error → IsByLines ready) }
@@ -71,6 +74,7 @@ pub fn write<S: Sink>(alloc: Global, ready: Ready, out: &mut S) -> Result<(), Wr
         }
         Ready::Tree(text) => write_tree(alloc, text, out),
         Ready::Table(mut lines) => write_lines(alloc, &mut lines, out),
+        Ready::Sheet(mut lines) => write_lines(alloc, &mut lines, out),
     }
 }
 

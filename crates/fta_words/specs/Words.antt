@@ -218,11 +218,16 @@ is_timed given = is_given (codes "hours") given || is_given (codes "events") giv
 abbrev pub is_told_or_shown : List Given → Bool
 is_told_or_shown given = if is_given (codes "probability") given then not (is_shown given) && is_whole_or_to_order given else not (is_timed given) && is_drawn_or_listed given
 
+-- whether not both a table of all effects and a sheet are asked for
+abbrev pub is_table_or_sheet : List Given → Bool
+is_table_or_sheet given = not (is_given (codes "all") given && is_given (codes "sheet") given)
+
 -- Whether options that are given have a meaning together: a tree that is read from a file has no sets where it is written in a format, neither
--- where its probability is asked for, and the importance of events is by all sets.
+-- where its probability is asked for, the importance of events is by all sets, and a sheet has all effects.
 abbrev pub is_fit : Kind → List Given → Bool
 is_fit kind.Galileo given = is_told_or_shown given
 is_fit kind.Probability given = is_whole_or_to_order given
+is_fit kind.Fmea given = is_table_or_sheet given
 is_fit _ given = true
 
 -- whether the flag of a name is given

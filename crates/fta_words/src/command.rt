@@ -52,7 +52,8 @@ pub struct Options {
     /// The names of the flags that are given, in the order of those of all commands: `tokens`, that a last line `more` has a token;
     /// `all`, that all effects, or all facts, are asked for, and not those of the root alone; `text`, that the text of a model that is
     /// made is; `paths`, that the path sets of a tree are, and not its cut sets;
-    /// `events`, that the importance of each event is; `tap`, that verdicts on requirements are written as TAP.
+    /// `events`, that the importance of each event is; `tap`, that verdicts on requirements are written as TAP;
+    /// `probability`, that the probability of the top of a tree is; `sheet`, that a line for each event is.
     pub flags: List<Name>,
 }
 

@@ -1,7 +1,7 @@
 ghost use Rattle.std.specs.Prelude.{◌≡◌, true, ◌↔◌, ◌≤◌, ◌++◌, ℕ, length, List, IsTrue, MatchOption, ◌∷◌};
 ghost use Rattle.std.specs.List.{AllByRecursion};
 ghost use Rattle.fta_words.specs.Table.{flags_of, required_of, valued_of};
-ghost use Rattle.fta_words.specs.Words.{Given, is_drawn_or_listed, is_fit, is_given, is_listed, is_shown, is_timed, is_told_or_shown, is_whole_or_to_order, option_words};
+ghost use Rattle.fta_words.specs.Words.{Given, is_drawn_or_listed, is_fit, is_given, is_listed, is_shown, is_timed, is_table_or_sheet, is_told_or_shown, is_whole_or_to_order, option_words};
 ghost use Rattle.fta_words.specs.inner.Reading.{Allowed, HaveOptions, NoneStandsFirst, StandsFirst};
 
 use crate::kind::Kind;
@@ -32,13 +32,14 @@ pub(crate) fn are_complete(kind: Kind, words: &[Word]) -> bool
 
 /// Whether options of the command that are given have a meaning together: a tree that is read from a file has no sets where it is
 /// written in a format, and no gates are chosen where it is not, and neither where its probability is asked for; the importance of events
-/// is by all sets.
+/// is by all sets, and a sheet has all effects.
 pub(crate) fn are_fit(kind: Kind, words: &[Word]) -> bool
     ensures { (given : List Given) → words.now ≡ option_words given → Allowed (flags_of kind) (valued_of kind) given → IsTrue result ↔ (is_fit kind given ≡ true) }
 {
     match kind {
         Kind::Galileo => is_told_or_shown(kind, words),
         Kind::Probability => is_whole_or_to_order(kind, words),
+        Kind::Fmea => is_table_or_sheet(kind, words),
         _ => true,
     }
 }
@@ -88,6 +89,13 @@ fn is_whole_or_to_order(kind: Kind, words: &[Word]) -> bool
     ensures { (given : List Given) → words.now ≡ option_words given → Allowed (flags_of kind) (valued_of kind) given → result ≡ is_whole_or_to_order given }
 {
     !(is_given(kind, words, b"events") && is_given(kind, words, b"max-order"))
+}
+
+/// Whether not both a table of all effects and a sheet are asked for.
+fn is_table_or_sheet(kind: Kind, words: &[Word]) -> bool
+    ensures { (given : List Given) → words.now ≡ option_words given → Allowed (flags_of kind) (valued_of kind) given → result ≡ is_table_or_sheet given }
+{
+    !(is_given(kind, words, b"all") && is_given(kind, words, b"sheet"))
 }
 
 /// Whether an option of a listing is given.

@@ -44,7 +44,7 @@ const NO_NAMES: Names = &[];
 pub type CommandRow = Row<&'static [u8], Names>;
 
 /// The flags of all commands.
-pub const FLAGS: [&'static str; 7] = [
+pub const FLAGS: [&'static str; 8] = [
     "tokens",
     "all",
     "text",
@@ -52,6 +52,7 @@ pub const FLAGS: [&'static str; 7] = [
     "events",
     "tap",
     "probability",
+    "sheet",
 ];
 
 /// The options of all commands that have a value.
@@ -132,11 +133,11 @@ pub const ROWS: [CommandRow; 22] = [
         kind: Kind::Fmea,
         name: b"fmea",
         shape: Shape::Model,
-        flags: &[b"all"],
+        flags: &[b"all", b"sheet"],
         valued: &[b"profile"],
         required: &[],
         usage: b"fmea ROOT FILE..",
-        optional: b" [--all] [--profile 1|2]",
+        optional: b" [--all | --sheet] [--profile 1|2]",
         about: b"the table of the effects that each event reaches alone",
     },
     Row {

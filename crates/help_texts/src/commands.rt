@@ -45,6 +45,7 @@ pub const FMEA: &[u8] =
     the effect is reached. Effects are the states of the root that are not initial, and what leaves it.\n\
     \n\
     --all          the effects of all components\n\
+    --sheet        a line for each event: its component, its rate, and what it reaches there, next to it, and at the root\n\
     --profile 1|2  the first, or the second, which also reads recovery, noerror, orless and more bindings\n\
     \n\
     Example, in the folder of the repository:\n\
@@ -288,4 +289,4 @@ pub const PROGRAM: &[u8] = b"aadl_fta 0.1.0";
 pub const VERSIONS: &[u8] = b"aadl_fta 0.1.0\n\
     profile 1\n\
     profile 2\n\
-    formats: check 1 cuts 1 tree 1 mef 1 dot 2 fmea 1 report 1 make 1 galileo 1 paths 1 why 1 confirm 1 targets 1 events 1 review 6 place 1 manifest 2 refusals 1 probability 1 require 1 compare 1\n";
+    formats: check 1 cuts 1 tree 1 mef 1 dot 2 fmea 1 sheet 1 report 1 make 1 galileo 1 paths 1 why 1 confirm 1 targets 1 events 1 review 6 place 1 manifest 2 refusals 1 probability 1 require 1 compare 1\n";

@@ -21,6 +21,7 @@ abbrev pub ready_text : Ready → List ℕ
 ready_text (ready.Held held) = held_text held
 ready_text (ready.Tree text) = tree_bytes text
 ready_text (ready.Table lines) = lines
+ready_text (ready.Sheet lines) = lines
 
 -- what an answer writes, and whether it tells of no requirement that is not met
 abbrev pub answer_output : Answer → Output
@@ -31,3 +32,4 @@ abbrev pub IsByLines : Ready → Type 0
 IsByLines (ready.Held held) = ⊥
 IsByLines (ready.Tree text) = Unit {0}
 IsByLines (ready.Table lines) = Unit {0}
+IsByLines (ready.Sheet lines) = Unit {0}

@@ -1,11 +1,12 @@
-use Rattle.std.proofs.Common.{List, ℕ, inl, inr, refl, subst}
+use Rattle.std.proofs.Common.{List, ℕ, codes, inl, inr, refl, subst}
 use Rattle.phases.specs.inner.Meets.{IsMemory, MeetsBut}
 use Rattle.system_answers.specs.Voices.{voices_of}
 use Rattle.system_answers.proofs.Reported.{all_kept}
 use Rattle.fta_run.specs.Due.{cuts_in, events_in, first_text, fmea_in, galileo_in, make_text, manifest_in, place_in, probability_in, refusals_in, review_in, sets_of_tree, targets_in, tree_in}
 use Rattle.fta_run.specs.Forms.{is_drawn}
+use Rattle.fta_words.specs.Words.{is_set}
 use Rattle.fta_run.specs.inner.Ready.{held_text, ready_text}
-use Rattle.fta_run.proofs.Ran.{held_is, meets_set, meets_wider, ready_held, ready_set, ready_told, told_as}
+use Rattle.fta_run.proofs.Ran.{held_is, meets_wider, ready_held, ready_set, ready_told, told_as}
 use Rattle.fta_run.proofs.answering.answer_by.Goals as goal
 
 pub returns-in-Check-clause-text : goal.returns-in-Check-clause-text
@@ -178,7 +179,8 @@ returns-in-Tree-clause-reports g c = all_kept (λ b. (goal.Report-dyn g (b.vtabl
 pub returns-in-Fmea-clause-text : goal.returns-in-Fmea-clause-text
 returns-in-Fmea-clause-text g c =
     let asked = c.args.asked.now in
-    rw c.in-Fmea.is (meets_set _ _ (λ flag. fmea_in c.args.profile asked.root flag c.args.texts) c.is_set-in-Fmea.result _ c.fmea.result c.is_set-in-Fmea.ensures (λ s memory. inl memory) c.fmea.ensures)
+    let its = subst (λ (names : List (List ℕ)). MeetsBut IsMemory ready_text (fmea_in (is_set asked.options (codes "sheet")) c.args.profile asked.root (is_set asked.options (codes "all")) names c.args.texts) c.fmea.result) c.items-names.ensures.items c.fmea.ensures in
+    rw c.in-Fmea.is (meets_wider _ _ _ _ c.fmea.result (λ s memory. inl memory) its)
 
 pub returns-in-Fmea-clause-reports : goal.returns-in-Fmea-clause-reports
 returns-in-Fmea-clause-reports g c = all_kept (λ b. (goal.Report-dyn g (b.vtable, b.value)).text b.value) (λ b. (goal.Report-dyn g (b.vtable, b.value)).label b.value) (λ b. (goal.Report-dyn g (b.vtable, b.value)).report_faults b.value) _ c.args.reports.now.items
