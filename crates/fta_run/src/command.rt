@@ -31,7 +31,7 @@ use system_answers::names_of;
 ///
 /// `check ROOT FILE..` writes the numbers of components, facts and events of the model of a root in the files,
 /// `cuts ROOT TARGET FILE..` a page of the minimal cut sets of a fact in it, `tree ROOT TARGET FILE..` its static fault tree as
-/// Galileo text, `fmea ROOT FILE..` the table of the effects that each event reaches alone, `targets ROOT FILE..` how many events it takes
+/// Galileo text, `fmea ROOT FILE..` the table of the effects that each event reaches alone, or with `--sheet` a line for each event, `targets ROOT FILE..` how many events it takes
 /// to make each effect of the root hold, `events ROOT FILE..` each event with its kind, its rate, and where it is declared,
 /// `review ROOT FILE..` what it leaves without effect, and where its errors stop, `report ROOT TARGET FILE..` what the
 /// handed-in reports say of all minimal cut sets of a fact, `make N` what is said of a model that is made of a number, and
