@@ -1,11 +1,10 @@
 -- The numbers of keys by name, with one key more.
-use Rattle.std.proofs.Common.{◌≡◌, ◌<◌, ◌+◌, ℕ, cond, List, [], ◌∷◌, ◌++◌, length, take, get_or, Option, refl, sym, ap, ◌∙◌}
+use Rattle.std.proofs.Common.{◌≡◌, ◌<◌, ◌+◌, ℕ, cond, List, [], ◌∷◌, ◌++◌, length, take, get_or, Option, sym, ◌∙◌}
 use Rattle.package_index.proofs.Loops.{numbered-more}
-use Rattle.package_index.specs.Names.{is_same_name}
 use Rattle.package_index.specs.declared.words.Words.{Words}
 use Rattle.package_index.specs.inner.Names.{names_of}
 use Rattle.package_index.specs.inner.Tables.{same_words}
-use Rattle.hazard_records.specs.Meaning.{number_of, numbers_named}
+use Rattle.hazard_records.specs.Meaning.{number_of}
 use Rattle.hazard_records.specs.inner.Tables.{KnowsNumbers, row_at}
 
 pub knows-more : (keys : List (List (List ℕ))) (i : ℕ) (key : List (List ℕ)) (words : Words) → i < length keys → key ≡ get_or keys i key → names_of words ≡ key

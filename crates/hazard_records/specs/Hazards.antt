@@ -19,7 +19,7 @@ use Rattle.hazard_values.specs.Texts.{value_text}
 use Rattle.hazard_records.specs.declared.hazard.Hazard.{Hazard}
 use Rattle.hazard_records.specs.declared.target.Target.{Target}
 use Rattle.hazard_records.specs.Meaning.{events_meant, facts_meant, path_in}
-use Rattle.hazard_records.specs.Targets.{has_target, is_named, says_of, targets_of}
+use Rattle.hazard_records.specs.Targets.{is_named, says_of, targets_of}
 
 -- A model of which hazards are said: its instance, read by a profile, and its facts and events in order.
 pub record Whole : Type 0 where

@@ -1,5 +1,5 @@
 -- What the target of a hazard means: facts and events of a model, by their names.
-use Rattle.std.specs.Prelude.{ℕ, cond, ◌-◌, ◌==◌, Bool, List, [], ◌∷◌, ◌++◌, codes, drop, filter, flat_map, length, map, slice_get, Option}
+use Rattle.std.specs.Prelude.{ℕ, cond, ◌-◌, ◌==◌, Bool, List, [], ◌∷◌, ◌++◌, codes, drop, filter, flat_map, length, map, slice_get}
 use Rattle.std.specs.Option.{option_map_or}
 use Rattle.plain_values.specs.Name.{is_same_text}
 use Rattle.plain_values.specs.Numbered.{numbered_from}

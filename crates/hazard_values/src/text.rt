@@ -2,7 +2,7 @@
 
 ghost use Rattle.std.specs.Prelude.{◌≡◌, ◌++◌, ◌∷◌, [], IfOk, OnOk, codes, cond, drop, false, true, flat_map, map, option_map};
 ghost use Rattle.aadl_syntax.specs.inner.Token.{shown};
-ghost use Rattle.hazard_values.specs.Texts.{begins_at, further_text, gap, goes_on, inside, is_joint, is_raised, is_string, item_text, joined, one_plain, plain_after, quoted_text, said, spaced, string_text, value_text};
+ghost use Rattle.hazard_values.specs.Texts.{begins_at, further_text, gap, goes_on, inside, is_raised, is_string, item_text, joined, one_plain, plain_after, quoted_text, said, spaced, string_text, value_text};
 
 use crate::item::list_items;
 use aadl_syntax::{TokenKind, TokenList, TokenRef};
