@@ -1,0 +1,4 @@
+mod Examples
+mod HazardLaws
+mod LastLaws
+mod NumberLaws

@@ -1,0 +1,4 @@
+pub mod Hazards
+pub mod Meaning
+pub mod Targets
+pub mod inner
