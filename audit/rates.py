@@ -1,6 +1,6 @@
 """The rates of events (docs/PROFILE.md, "Rates")."""
 
-from text import CLOSING, OPENING
+from text import CLOSING, OPENING, written
 
 PROPERTIES = (("occurrencedistribution",), ("emv2", "occurrencedistribution"))
 WORDS_OF = {"fixed": "prob", "poisson": "lambda", "exponential": "lambda"}
@@ -11,6 +11,54 @@ def key_of(facts, event):
     """The key of an event: the name of the error event or flow, or point and bare type."""
     _, kind, name, of_type = event
     return (name, facts.types.types[of_type].name) if kind == "in" else (name,)
+
+
+def lone_event(state, transitions, events):
+    """The event that alone leads to a state: the whole condition of each transition to it in
+    which an event occurs."""
+    def occurs(condition):
+        if condition.kind != "name":
+            return any(occurs(part) for part in condition.parts)
+        return len(condition.point) == 1 and condition.point[0].text in events
+
+    found = {item.condition.point[0].text
+             if item.condition.kind == "name" and not item.condition.set else None
+             for item in transitions
+             if any(goal.name == state for goal in item.goals) and occurs(item.condition)}
+    return found.pop() if len(found) == 1 else None
+
+
+def further_keys(part):
+    """The further keys of the events of a component (docs/PROFILE2.md, "Rates"), as they count:
+    of each the name of the event, or None, and the key."""
+    machine, keys = part.machine, []
+    events = {item.name for item in (machine.events if machine else [])}
+    events |= {item.name for item, _ in part.events}
+    transitions = (machine.transitions if machine else []) + [item for item, _ in part.transitions]
+
+    def lone(state):
+        return lone_event(state.name, transitions, events) if state and state.name else None
+
+    def typed(event, item):
+        return [(event, tuple(written(item.point)) + (written(term.names)[-1],))
+                for term in (item.set.terms if item.set else []) if term.kind == "names"]
+
+    sources = [flow for flow, _ in part.flows if flow.kind == "source"]
+    keys += [(lone(state), (state.name,)) for state in (machine.states if machine else [])]
+    keys += [(lone(flow.state), (flow.name,)) for flow in sources if flow.state]
+    for flow in sources:
+        own = None if flow.name in events else flow.name
+        keys += typed(lone(flow.state) if flow.state else own, flow)
+    for item, _ in part.outgoing:
+        keys += typed(None if item.condition else lone(item.source), item)
+    return keys
+
+
+def keys_of(facts, event):
+    """All keys of an event, as they count: its own, and by the second profile further ones."""
+    own = key_of(facts, event)
+    further = further_keys(facts.parts[event[0]]) if facts.profile == 2 else []
+    return [own] + [key for name, key in further if (name,) == own]
 
 
 def rate_properties(owners):
@@ -25,12 +73,19 @@ def associations(owners, profile):
 
 
 def sayings(facts, event):
-    """What components and the machine say of the event: who, and the tokens of the value.
+    """What is said of an event by the first of its keys by which anything is."""
+    said = (sayings_by(facts, event, key) for key in keys_of(facts, event))
+    return next((each for each in said if each), [])
+
+
+def sayings_by(facts, event, key):
+    """What components and the machine say of the event by a key: who, and the tokens of the
+    value.
 
     The outermost component comes first, and the machine last. Of each one the last association
     counts; who does not say it is left out.
     """
-    part, key = facts.parts[event[0]], key_of(facts, event)
+    part = facts.parts[event[0]]
     owners = [("machine", [part.machine] if part.machine else [], key)]
     while part:
         owners.insert(1, (part.path, part.clauses, key))

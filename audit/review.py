@@ -3,7 +3,7 @@ line with the place (file, byte) of what it names."""
 
 from bindings import GUESTS, KINDS, Piece, braced_of, category, pieces
 from cuts import is_true, leaves
-from rates import key_of, rate_properties
+from rates import keys_of, rate_properties
 from rounds import effects, is_effect, rounds
 from text import CLOSING, OPENING
 
@@ -323,10 +323,10 @@ class Review:
         a `^`), and a dash where it applies to nothing."""
         known = {part.path: set() for part in self.facts.parts}
         for event in self.facts.events:
-            part, key = self.facts.parts[event[0]], key_of(self.facts, event)
+            part, keys = self.facts.parts[event[0]], keys_of(self.facts, event)
             while part:
-                known[part.path].add(key)
-                key = (part.path.rsplit(".", 1)[-1],) + key
+                known[part.path].update(keys)
+                keys = [(part.path.rsplit(".", 1)[-1],) + key for key in keys]
                 part = part.parent
         for part in self.facts.parts:
             texts = part.clauses + ([part.machine] if part.machine else [])
