@@ -1,11 +1,13 @@
 -- The associations of rates, and which of them fits an event.
-use Rattle.std.specs.Prelude.{ℕ, Bool, true, false, ◌&&◌, List, [], ◌∷◌, ◌++◌, codes, filter, flat_map, map, slice_get, Option, None, Some}
+use Rattle.std.specs.Prelude.{ℕ, Bool, true, false, ◌&&◌, List, [], ◌∷◌, ◌++◌, codes, filter, flat_map, map, slice_get, Option, None, Some, cond, option_map}
 use Rattle.std.specs.List.{last_or, list_any}
 use Rattle.std.specs.Option.{option_or, option_map_or}
 use Rattle.plain_values.specs.Name.{is_same_text}
 use Rattle.profiles.specs.declared.profile.Profile.{Profile}
 use Rattle.profiles.specs.declared.profile.Profile.TheVariants.{First, Second}
+use Rattle.aadl_syntax.specs.declared.core_model.PackageUnit.{PackageUnit}
 use Rattle.aadl_syntax.specs.declared.error_model.Association.{Association}
+use Rattle.aadl_syntax.specs.declared.error_model.MachineDecl.{MachineDecl}
 use Rattle.aadl_syntax.specs.declared.error_model.OtherTarget.{OtherTarget}
 use Rattle.fault_system.specs.declared.formula.EventInfo.{EventInfo}
 use Rattle.package_index.specs.Names.{is_same_name}
@@ -14,6 +16,8 @@ use Rattle.error_machines.specs.Machines.{Machine}
 use Rattle.error_models.specs.Below.{machine_of}
 use Rattle.instantiator.specs.Components.{component_below}
 use Rattle.instantiator.specs.Whole.{Instance, effective_in}
+use Rattle.rate_keys.specs.declared.key.RateKey.{RateKey}
+use Rattle.rate_keys.specs.Keys.{rate_keys}
 use Rattle.property_reader.specs.declared.rate.Rate.{Rate}
 use Rattle.property_reader.specs.Rates.{association_rate, gives_rate}
 
@@ -80,11 +84,47 @@ fitting_along profile instance (Some number) (name ∷ path) key =
 abbrev pub path_in : Instance → ℕ → List (List ℕ)
 path_in instance number = option_map_or (λ component. component.path) (slice_get instance.components number) []
 
--- The association that counts for an event: one that fits on the way from the root to its component, or else one of its machine.
+-- ---- the keys of an event
+
+-- the declaration of the machine of a component with this effective classifier, if it uses one that is found
+abbrev pub machine_decl : List PackageUnit → Effective → Option MachineDecl
+machine_decl packages effective = option_map (λ machine. machine.item) (machine_of packages effective)
+
+-- the further keys of the events of a component with this effective classifier: by the first profile there are none
+abbrev pub further_keys : Profile → List PackageUnit → Effective → List RateKey
+further_keys First packages effective = []
+further_keys Second packages effective = rate_keys (machine_decl packages effective) effective
+
+-- the further keys of the events of the component of a number
+abbrev pub keys_at : Profile → Instance → ℕ → List RateKey
+keys_at profile instance number = further_keys profile instance.packages (effective_in instance number)
+
+-- whether a key is of the event that has this one
+abbrev pub is_of_event : List (List ℕ) → RateKey → Bool
+is_of_event own key = is_same_name (key.event ∷ []) own
+
+-- ---- the association that counts
+
+-- The association that is said of an event of a component by a key: one that fits on the way from the root to the component, or else one of its
+-- machine.
+abbrev pub said_of : Profile → Instance → ℕ → List (List ℕ) → Option Association
+said_of profile instance owner key =
+    option_or (fitting_along profile instance (Some 0) (path_in instance owner) key)
+    (last_fitting profile key (machine_associations (machine_of instance.packages (effective_in instance owner))))
+
+-- the same by a further key, if it is of the event that has this one
+abbrev pub said_by_key : Profile → Instance → ℕ → List (List ℕ) → RateKey → Option Association
+said_by_key profile instance owner own key = cond (is_of_event own key) (said_of profile instance owner key.names) None
+
+-- the first association that is said by some further keys
+abbrev pub first_said : Profile → Instance → ℕ → List (List ℕ) → List RateKey → Option Association
+first_said profile instance owner own [] = None
+first_said profile instance owner own (key ∷ keys) = option_or (said_by_key profile instance owner own key) (first_said profile instance owner own keys)
+
+-- The association that counts for an event: one that is said of it by its key, or else by the first of its further keys by which one is.
 abbrev pub association_of : Profile → Instance → EventInfo → Option Association
 association_of profile instance event =
-    option_or (fitting_along profile instance (Some 0) (path_in instance event.owner) event.key)
-    (last_fitting profile event.key (machine_associations (machine_of instance.packages (effective_in instance event.owner))))
+    option_or (said_of profile instance event.owner event.key) (first_said profile instance event.owner event.key (keys_at profile instance event.owner))
 
 -- The rate of an event of a model.
 abbrev pub rate_in : Profile → Instance → EventInfo → Rate

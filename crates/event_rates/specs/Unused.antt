@@ -13,16 +13,21 @@ use Rattle.package_index.specs.Names.{is_same_name}
 use Rattle.error_models.specs.Below.{machine_of}
 use Rattle.instantiator.specs.declared.path.Component.{Component}
 use Rattle.instantiator.specs.Whole.{Instance, effective_in}
-use Rattle.event_rates.specs.Associations.{clause_associations, is_distribution, machine_associations, path_in}
+use Rattle.rate_keys.specs.declared.key.RateKey.{RateKey}
+use Rattle.event_rates.specs.Associations.{clause_associations, is_distribution, is_of_event, keys_at, machine_associations, path_in}
 use Rattle.event_rates.specs.declared.unused.UnusedRate.{UnusedRate}
 
--- the whole name of an event: the path of its component, and then its key
-abbrev pub whole_name : Instance → EventInfo → List (List ℕ)
-whole_name instance event = path_in instance event.owner ++ event.key
+-- the whole names of the event that has this key among the events of a component: the path of the component, and then each of its keys
+abbrev pub names_by_keys : List (List ℕ) → List (List ℕ) → List RateKey → List (List (List ℕ))
+names_by_keys path own keys = (path ++ own) ∷ map (λ key. path ++ key.names) (filter (is_of_event own) keys)
+
+-- the whole names of an event
+abbrev pub event_names : Profile → Instance → EventInfo → List (List (List ℕ))
+event_names profile instance event = names_by_keys (path_in instance event.owner) event.key (keys_at profile instance event.owner)
 
 -- the whole names of events
-abbrev pub whole_names : Instance → List EventInfo → List (List (List ℕ))
-whole_names instance events = map (whole_name instance) events
+abbrev pub whole_names : Profile → Instance → List EventInfo → List (List (List ℕ))
+whole_names profile instance events = flat_map (event_names profile instance) events
 
 -- whether a name is among names
 abbrev pub is_one_of : List (List (List ℕ)) → List (List ℕ) → Bool
@@ -84,4 +89,4 @@ unused_at profile names instance number component = unused_in profile names inst
 
 -- The targets of associations of rates that name no event of a model, one component after the other (EMV2: `OccurrenceDistribution`).
 abbrev pub unused_rates : Profile → Instance → List EventInfo → List UnusedRate
-unused_rates profile instance events = numbered_from (unused_at profile (whole_names instance events) instance) 0 instance.components
+unused_rates profile instance events = numbered_from (unused_at profile (whole_names profile instance events) instance) 0 instance.components

@@ -3,7 +3,7 @@ ghost use Rattle.aadl_syntax.specs.declared.error_model.MachineDecl.{MachineDecl
 ghost use Rattle.error_machines.specs.Machines.{find_machine, machine_at};
 ghost use Rattle.error_models.specs.Below.{machine_of};
 ghost use Rattle.instantiator.specs.Whole.{classifier_at, effective_in};
-ghost use Rattle.event_rates.specs.Associations.{clause_associations, last_fitting, machine_associations};
+ghost use Rattle.event_rates.specs.Associations.{clause_associations, further_keys, keys_at, last_fitting, machine_associations, machine_decl};
 ghost use Rattle.event_rates.specs.inner.Listed.{associations_in, listed};
 ghost use Rattle.event_rates.specs.inner.Rated.{rated};
 ghost use Rattle.event_rates.specs.inner.Tables.{all_associations, effective_rates, fitting_in, id_found, kind_rates, machine_table};
@@ -11,19 +11,22 @@ ghost use Rattle.event_rates.specs.inner.Tables.{all_associations, effective_rat
 use crate::table::AssociationTable;
 use aadl_syntax::{Association, MachineDecl};
 use component_extension::{Effective, InClause};
-use error_machines::{MachineId, find_machine};
+use error_machines::{MachineId, find_machine, machine_at};
 use instantiator::Instance;
 use package_index::{Index, Package};
 use plain_values::{List, Mem, Name};
 use profiles::Profile;
+use rate_keys::{RateKey, rate_keys};
 use std::alloc::Global;
 use std::marker::Model;
 
-/// What is known of components of a kind: the associations of their clauses, and the machine that they use.
+/// What is known of components of a kind: the associations of their clauses, the machine that they use, and the further keys of
+/// their events.
 #[derive(Drop)]
 pub(crate) struct KindRates<'r> {
     pub(crate) clauses: AssociationTable<'r>,
     pub(crate) machine: Option<MachineId>,
+    pub(crate) keys: List<RateKey>,
 }
 
 /// An instance, with the associations of each of its kinds and of each machine of its packages, read by a profile. Contracts see the profile and the
@@ -99,6 +102,16 @@ impl<'r> Tables<'r> {
         ensures { option_copied result ≡ last_fitting self.now.profile names.now (clause_associations (effective_in self.now.instance component)) }
     {
         self.kind(component)?.clauses.last_fitting(names)
+    }
+
+    /// The further keys of the events of a component.
+    pub(crate) fn keys_at(&self, component: u32) -> &[RateKey]
+        ensures { result.now ≡ keys_at self.now.profile self.now.instance component }
+    {
+        match self.kind(component) {
+            Some(kind) => kind.keys.items(),
+            None => &[],
+        }
     }
 
     /// The last association of the machine of a component that fits these names.
@@ -182,10 +195,37 @@ fn effective_rates<'r>(
     ensures { IfOk result (λ kind. kind ≡ effective_rates profile index.now effective.now) }
 {
     let clauses = clauses_of(alloc, profile, effective.others.associations.items())?;
+    let machine = machine_found(index, effective);
+    let keys = further_keys(alloc, profile, index, effective)?;
     Ok(KindRates {
         clauses,
-        machine: machine_found(index, effective),
+        machine,
+        keys,
     })
+}
+
+/// The further keys of the events of components with this effective classifier: by the first profile there are none.
+fn further_keys<'r>(
+    alloc: Global,
+    profile: Profile,
+    index: &Index<'r>,
+    effective: &Effective<'r>,
+) -> Mem<List<RateKey>>
+    ensures { IfOk result (λ keys. keys ≡ further_keys profile index.now effective.now) }
+{
+    match profile {
+        Profile::First => Ok(List::new(alloc)),
+        Profile::Second => rate_keys(alloc, machine_decl(index, effective), effective),
+    }
+}
+
+/// The declaration of the machine of a component with this effective classifier, if it uses one that is found.
+fn machine_decl<'r>(index: &Index<'r>, effective: &Effective<'r>) -> Option<&'r MachineDecl>
+    ensures { option_copied result ≡ machine_decl index.now effective.now }
+{
+    let id = machine_found(index, effective)?;
+    let machine = machine_at(index, id)?;
+    Some(machine.decl())
 }
 
 /// The machine of a component with this effective classifier, if one is found.

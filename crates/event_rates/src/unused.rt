@@ -3,11 +3,12 @@
 ghost use Rattle.std.specs.Prelude.{◌≡◌, ◌++◌, ◌∷◌, [], IfOk, OnOk, cond, filter, map, option_copied};
 ghost use Rattle.plain_values.specs.Numbered.{numbered_from};
 ghost use Rattle.profiles.specs.declared.profile.Profile.TheVariants.{Second};
-ghost use Rattle.event_rates.specs.Unused.{is_of_none, is_one_of, names_none, no_target, other_targets, other_text, rates_at, said_of_none, unused_among, unused_at, unused_in, unused_rates, unused_targets, whole_names};
+ghost use Rattle.event_rates.specs.Associations.{is_of_event};
+ghost use Rattle.event_rates.specs.Unused.{event_names, is_of_none, is_one_of, names_none, no_target, other_targets, other_text, rates_at, said_of_none, unused_among, unused_at, unused_in, unused_rates, unused_targets, whole_names};
 ghost use Rattle.event_rates.specs.inner.Listed.{associations_in};
 
 use crate::kinds::Tables;
-use crate::rates::names_of;
+use crate::rates::{is_of_event, names_of};
 use crate::table::{AssociationTable, is_distribution};
 use aadl_syntax::{Association, Identifier, OtherTarget};
 use fault_system::EventInfo;
@@ -15,6 +16,7 @@ use instantiator::Instance;
 use package_index::Words;
 use plain_values::{List, Mem, Name, Spot, copied};
 use profiles::Profile;
+use rate_keys::RateKey;
 use std::alloc::Global;
 use std::collections::HashSet;
 use std::marker::Model;
@@ -99,16 +101,48 @@ pub fn unused_rates(
     all_unused(alloc, &tables, &names)
 }
 
-/// The whole names of events.
+/// The whole names of events, each by all of its keys.
 fn whole_names(alloc: Global, tables: &Tables, events: &[EventInfo]) -> Mem<List<List<Name>>>
-    ensures { IfOk result (λ names. names ≡ whole_names tables.now.instance events.now) }
+    ensures { IfOk result (λ names. names ≡ whole_names tables.now.profile tables.now.instance events.now) }
 {
     let mut names = List::new(alloc);
     for event in events {
-        let name = names_of(alloc, tables.path(event.owner), event.key.items())?;
-        names.push(name)?;
+        add_event(&mut names, alloc, tables, event)?;
     }
     Ok(names)
+}
+
+/// Adds the whole names of an event.
+fn add_event(
+    names: &mut List<List<Name>>,
+    alloc: Global,
+    tables: &Tables,
+    event: &EventInfo,
+) -> Mem<()>
+    ensures { OnOk result (names.new ≡ names.old ++ event_names tables.now.profile tables.now.instance event.now) }
+{
+    let path = tables.path(event.owner);
+    let own = event.key.items();
+    let name = names_of(alloc, path, own)?;
+    names.push(name)?;
+    add_further(names, alloc, path, own, tables.keys_at(event.owner))
+}
+
+/// Adds the whole names of an event of this key by the further keys that are its own.
+fn add_further(
+    names: &mut List<List<Name>>,
+    alloc: Global,
+    path: &[&Identifier],
+    own: &[Name],
+    keys: &[RateKey],
+) -> Mem<()>
+    ensures { OnOk result (names.new ≡ names.old ++ map (λ key. map (λ name. name.now) path.now ++ key.names) (filter (is_of_event own.now) keys.now)) }
+{
+    for key in keys {
+        let name = names_of(alloc, path, key.names.items())?;
+        names.push_if(name, is_of_event(own, key))?;
+    }
+    Ok(())
 }
 
 /// Those of all components.

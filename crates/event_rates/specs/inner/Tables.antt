@@ -10,7 +10,7 @@ use Rattle.error_machines.specs.declared.machines.MachineId.{MachineId}
 use Rattle.error_machines.specs.Machines.{Machine, find_machine}
 use Rattle.instantiator.specs.Effectives.{effective_of}
 use Rattle.event_rates.specs.declared.kinds.KindRates.{KindRates}
-use Rattle.event_rates.specs.Associations.{clause_associations, last_fitting}
+use Rattle.event_rates.specs.Associations.{clause_associations, further_keys, last_fitting}
 use Rattle.event_rates.specs.inner.Listed.{Listed, listed}
 
 -- the machine that is found, if one is
@@ -18,9 +18,14 @@ abbrev pub id_found : Result (Option MachineId) Refusal → Option MachineId
 id_found (Err refusal) = None
 id_found (Ok id) = id
 
--- what is known of components with this effective classifier: the associations of their clauses, and their machine
+-- what is known of components with this effective classifier: the associations of their clauses, their machine, and the
+-- further keys of their events
 abbrev pub effective_rates : Profile → List PackageUnit → Effective → KindRates
-effective_rates profile packages effective = record { clauses = listed profile (clause_associations effective); machine = id_found (find_machine packages effective) }
+effective_rates profile packages effective = record {
+  clauses = listed profile (clause_associations effective);
+  machine = id_found (find_machine packages effective);
+  keys = further_keys profile packages effective;
+}
 
 -- what is known of components of this classifier
 abbrev pub kind_rates : Profile → List PackageUnit → ClassifierId → KindRates
