@@ -1,5 +1,5 @@
 -- Worked rows: an association that applies to `^lane1@fault`, and one that applies to a state, by both profiles.
-use Rattle.std.proofs.Common.{ℕ, ◌≡◌, false, true, List, [], ◌∷◌, ◌++◌, codes, Option, Some, None, refl}
+use Rattle.std.proofs.Common.{ℕ, ◌≡◌, false, List, [], ◌∷◌, codes, Some, None, refl}
 use Rattle.plain_values.specs.declared.spot.Spot.{Spot}
 use Rattle.profiles.specs.declared.profile.Profile.TheVariants.{First, Second}
 use Rattle.aadl_syntax.specs.declared.core_model.Decl.{Decl}
@@ -136,11 +136,7 @@ on_state = applying_to (codes "failed")
 abbrev on_event : Association
 on_event = applying_to (codes "fail")
 
--- by the second profile an association that applies to the state counts for the event, and by the first it does not
-second-counts-state : association_of Second (model (on_state ∷ [])) fail ≡ Some on_state
-unfolding effective_of chain_from
-second-counts-state = refl
-
+-- by the first profile an association that applies to the state does not count for the event
 first-counts-none : association_of First (model (on_state ∷ [])) fail ≡ None
 unfolding effective_of chain_from
 first-counts-none = refl
@@ -150,7 +146,8 @@ own-comes-first : association_of Second (model (on_event ∷ on_state ∷ [])) f
 unfolding effective_of chain_from
 own-comes-first = refl
 
--- of two further keys the first by which something is said counts, and the key of another event says nothing
+-- by the second profile an association that applies to the state of a further key counts; of two further keys the first by which something is said
+-- counts, and the key of another event says nothing
 abbrev two : Instance
 two = model (on_state ∷ applying_to (codes "worse") ∷ [])
 
@@ -159,11 +156,7 @@ first-key-counts : first_said Second two 0 (codes "fail" ∷ []) (record { event
 unfolding effective_of chain_from
 first-key-counts = refl
 
--- the whole names of the event, by both profiles
-second-names : event_names Second (model []) fail ≡ (codes "fail" ∷ []) ∷ (codes "failed" ∷ []) ∷ []
-unfolding effective_of chain_from
-second-names = refl
-
+-- by the first profile the event has one whole name
 first-names : event_names First (model []) fail ≡ (codes "fail" ∷ []) ∷ []
 unfolding effective_of chain_from
 first-names = refl
