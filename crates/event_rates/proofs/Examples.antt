@@ -141,7 +141,7 @@ first-counts-none : association_of First (model (on_state ∷ [])) fail ≡ None
 unfolding effective_of chain_from
 first-counts-none = refl
 
--- one that applies to the event itself comes first, in whichever order they stand
+-- one that applies to the event itself comes first, though the other stands behind it
 own-comes-first : association_of Second (model (on_event ∷ on_state ∷ [])) fail ≡ Some on_event
 unfolding effective_of chain_from
 own-comes-first = refl
